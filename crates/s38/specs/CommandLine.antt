@@ -1,4 +1,4 @@
--- What a command line comes to: its first word is the path of the store's file, and the words behind it are served.
+-- What a command line comes to: its first word is the path of the store's file, and the words after it are served.
 use Rattle.std.specs.Prelude.{◌≡◌, ◌⊎◌, ℕ, true, Option, List, [], ◌∷◌}
 use Rattle.std.specs.Io.KnownBytes.{Keeps}
 use Rattle.std.specs.declared.io.ErrorKind.{ErrorKind}
@@ -9,7 +9,7 @@ use Rattle.s38_disk.specs.Files.{FileStore, file_view}
 use Rattle.s38_top.specs.declared.outcome.Outcome.{Outcome}
 use Rattle.s38_top.specs.declared.outcome.Outcome.TheVariants as outcomes
 use Rattle.s38_command.specs.Commands.{command_of}
-use Rattle.s38_top.specs.Outcome.{IsAnswered, IsTold}
+use Rattle.s38_top.specs.Outcome.{IsExplained, IsWrittenOut}
 use Rattle.s38_top.specs.Outside.{Outside, outside}
 use Rattle.s38.specs.declared.refusal.Refusal.{Refusal}
 use Rattle.s38.specs.declared.refusal.Refusal.TheVariants.{BadWords, DiskFault, NoMemory}
@@ -31,7 +31,7 @@ pub record EndsSomehow (words : List (List ℕ)) (old : Outside) (left : Option 
   pub history : List Entry
   pub marks : List ℕ
   pub disk : DiskView
-  pub answered : IsAnswered (command_of words) old (outside left taken written put disk) status history marks
+  pub answered : IsExplained (command_of words) old (outside left taken written put disk) status history marks
 
 -- a file that was just opened
 abbrev pub fresh_store : FileStore
@@ -42,7 +42,7 @@ fresh_file = file_view fresh_store
 
 -- without a path the words are bad, and nothing is read; where the file of the path can't be opened nothing is read either
 abbrev pub IsServed : List (List ℕ) → Option (List ℕ) → Option (List ℕ) → ℕ → ℕ → Option (List ℕ) → Option (List ℕ) → ℕ → ℕ → ℕ → Type 0
-IsServed [] left left' taken taken' written written' put put' status = Keeps left left' × IsTold written written' put put' status outcomes.BadWords
+IsServed [] left left' taken taken' written written' put put' status = Keeps left left' × IsWrittenOut written written' put put' status outcomes.BadWords
 IsServed (path ∷ words) left left' taken taken' written written' put put' status =
-    (Keeps left left' × IsTold written written' put put' status outcomes.DiskFault)
+    (Keeps left left' × IsWrittenOut written written' put put' status outcomes.DiskFault)
     ⊎ EndsSomehow words (outside left taken written put fresh_file) left' taken' written' put' status

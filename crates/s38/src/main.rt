@@ -16,7 +16,7 @@ use std::process::ExitCode;
 use std::{env, io};
 use streams::take_places;
 
-/// The words of the command line behind the program's own.
+/// The words of the command line after the program's own.
 fn command_line<R: Env + AllocGlobal>(rt: &R) -> io::Result<Vec<String>> {
     let mut words = Vec::new(rt.alloc());
     for (place, word) in env::args(rt)?.enumerate() {

@@ -1,5 +1,6 @@
 ghost use Rattle.std.specs.Prelude.{◌≡◌, if◌then◌else◌};
-ghost use Rattle.s38_top.specs.Outcome.{IsTold, faulted, status_of, text_of};
+ghost use Rattle.s38_top.specs.Outcome.{IsWrittenOut, faulted};
+ghost use Rattle.s38_top.specs.Answered.{outcome_text, status_of};
 ghost use Rattle.s38.specs.CommandLine.{outcome_of, refusal_of};
 
 use s38_io::Sink;
@@ -29,7 +30,7 @@ pub fn refusal_of(kind: ErrorKind) -> Refusal
 /// What is written of a refusal.
 #[tactic(auto, unfolding(s38_top::specs::Lines::disk_fault_line))]
 fn text(refusal: Refusal) -> &'static [u8]
-    ensures { result.now ≡ text_of (outcome_of refusal) }
+    ensures { result.now ≡ outcome_text (outcome_of refusal) }
 {
     match refusal {
         Refusal::BadWords => b"BAD WORDS\n",
@@ -51,7 +52,7 @@ fn status(refusal: Refusal, written: bool) -> u8
 
 /// Writes the text of a refusal, and gives its status.
 pub fn refuse<O: Sink>(refusal: Refusal, out: &mut O) -> u8
-    ensures { IsTold (O.written out.old) (O.written out.new) (O.faults out.old) (O.faults out.new) result (outcome_of refusal) }
+    ensures { IsWrittenOut (O.written out.old) (O.written out.new) (O.faults out.old) (O.faults out.new) result (outcome_of refusal) }
 {
     match out.put(text(refusal)) {
         Ok(()) => status(refusal, true),

@@ -1,6 +1,6 @@
 ghost use Rattle.std.specs.Prelude.{◌≡◌, IfOk, IfSome, IsSome, map, string_bytes};
 ghost use Rattle.s38_command.specs.Commands.{asks_threads, command_of};
-ghost use Rattle.s38_top.specs.Outcome.{IsAnswered};
+ghost use Rattle.s38_top.specs.Outcome.{IsExplained};
 ghost use Rattle.s38_top.specs.Outside.{outside};
 ghost use Rattle.s38.specs.CommandLine.{EndsSomehow, IsServed, fresh_store};
 
@@ -37,7 +37,7 @@ fn serve_texts<R: Threads + Wait + Sync, D: Disk + Drop + Send, I: Source, O: Si
 ) -> Report<D>
     requires { threads ≡ asks_threads (command_of (map (λ w. w.now) texts.now)) }
     ensures back { IsSome result.disk }
-    ensures answered { IfSome result.disk (λ new. IsAnswered (command_of (map (λ w. w.now) texts.now)) (outside (I.left deck.old) (I.faults deck.old) (O.written out.old) (O.faults out.old) (D.view disk))
+    ensures answered { IfSome result.disk (λ new. IsExplained (command_of (map (λ w. w.now) texts.now)) (outside (I.left deck.old) (I.faults deck.old) (O.written out.old) (O.faults out.old) (D.view disk))
         (outside (I.left deck.new) (I.faults deck.new) (O.written out.new) (O.faults out.new) (D.view new)) result.status result.history.items result.marks.items) }
 {
     if threads {
@@ -47,7 +47,7 @@ fn serve_texts<R: Threads + Wait + Sync, D: Disk + Drop + Send, I: Source, O: Si
     }
 }
 
-/// Serves words over a disk. The program ends behind it, and its memory with it: neither the disk nor the history is taken
+/// Serves words over a disk. The program ends after it, and its memory with it: neither the disk nor the history is taken
 /// apart.
 fn serve<R: Threads + Wait + Sync, D: Disk + Drop + Send, I: Source, O: Sink>(
     rt: &R,
@@ -88,7 +88,7 @@ pub fn attach(rt: &HostRuntime, words: &[String]) -> Option<FileDisk>
     }
 }
 
-/// Serves the words behind the first, which is the path of the store's file, over that file.
+/// Serves the words after the first, which is the path of the store's file, over that file.
 pub fn serve_over_file<R: Threads + Wait + Sync, I: Source, O: Sink>(
     rt: &R,
     alloc: Global,

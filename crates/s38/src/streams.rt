@@ -2,7 +2,7 @@
 
 use std::fs::{File, OpenOptions};
 
-/// What stands in the places of standard streams that were closed, as long as it is held.
+/// What is in the places of standard streams that were closed, as long as it is held.
 #[derive(Drop)]
 pub struct Places {
     _first: Option<File>,
@@ -19,7 +19,7 @@ fn folder(rt: &HostRuntime) -> Option<File> {
 }
 
 /// Takes the places of the standard streams that were closed. The system gives a file the first place that is free: else the
-/// store would stand where the log is written or the deck is read. What is read or written in such a place fails.
+/// store would be where the log is written or the deck is read. What is read or written in such a place fails.
 pub fn take_places(rt: &HostRuntime) -> Places {
     Places {
         _first: folder(rt),

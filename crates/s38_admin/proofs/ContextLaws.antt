@@ -3,10 +3,10 @@ use Rattle.std.proofs.Common.{◌≡◌, ℕ, true, false, cond, List, [], ◌�
 use Rattle.s38_base.specs.declared.id.Id.{Id}
 use Rattle.s38_code.specs.declared.operand.Operand.{Operand}
 use Rattle.s38_rules.specs.declared.object.Object.{Object}
-use Rattle.s38_rules.specs.Contexts.{is_name_beside, modadr_fails, rename_fails, rename_rule}
-use Rattle.s38_rules.specs.Creation.{is_another, is_taken_beside}
-use Rattle.s38_rules.specs.Held.{Held, context_in, found_in, home, is_there, object}
-use Rattle.s38_rules.specs.Operands.{id_at, target}
+use Rattle.s38_rules.specs.families.Contexts.{is_name_beside, modadr_fails, rename_fails, rename_rule}
+use Rattle.s38_rules.specs.families.Creation.{is_another, is_taken_beside}
+use Rattle.s38_rules.specs.state.Held.{Held, context_in, found_in, home, is_there, object}
+use Rattle.s38_rules.specs.ask.Operands.{id_at, target}
 use Rattle.s38_rules.proofs.RuleLaws.{fails_none, first_none}
 
 -- no other object of the new context has the identification

@@ -5,16 +5,16 @@ use Rattle.s38_base.specs.declared.exception.Exception.{Exception}
 use Rattle.std.specs.Prelude.{Option}
 use Rattle.s38_code.specs.declared.operand.Operand.{Operand}
 use Rattle.s38_rules.specs.declared.creating.Creating.{Creating}
-use Rattle.s38_rules.specs.Contexts.{crtctx_fails, new_context}
-use Rattle.s38_rules.specs.Creation.{creation_fails}
+use Rattle.s38_rules.specs.families.Contexts.{crtctx_fails, new_context}
+use Rattle.s38_rules.specs.families.Creation.{creation_fails}
 use Rattle.s38_memory.specs.Tagged.{resized}
 use Rattle.s38_rules.specs.declared.object.Body.TheVariants as bodies
-use Rattle.s38_rules.specs.Held.{Held, pages_of, space_pages}
-use Rattle.s38_rules.specs.Operands.{count_at, target}
-use Rattle.s38_rules.specs.Profiles.{crtup_fails, new_profile}
-use Rattle.s38_rules.specs.Spaces.{crts_fails, is_space_length, length_at, length_rule, mods_fails, new_space, owner_pays, pages_for_length}
-use Rattle.s38_rules.specs.State.{State}
-use Rattle.s38_rules.specs.Users.{user_of}
+use Rattle.s38_rules.specs.state.Held.{Held, pages_of, space_pages}
+use Rattle.s38_rules.specs.ask.Operands.{count_at, target}
+use Rattle.s38_rules.specs.families.Profiles.{crtup_fails, new_profile}
+use Rattle.s38_rules.specs.families.Spaces.{crts_fails, is_space_length, length_at, length_rule, mods_fails, new_space, owner_pays, pages_for_length}
+use Rattle.s38_rules.specs.state.State.{State}
+use Rattle.s38_rules.specs.ask.Users.{user_of}
 use Rattle.s38_rules.proofs.RuleLaws.{fails_none, first_none, not_false}
 
 -- a space that may be made meets the rules of creation

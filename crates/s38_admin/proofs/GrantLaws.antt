@@ -3,10 +3,12 @@ use Rattle.std.proofs.Common.{◌≡◌, ℕ, ◌-◌, Bool, true, false, cond, 
 use Rattle.s38_base.specs.declared.id.ObjNum.{ObjNum}
 use Rattle.s38_code.specs.declared.operand.Operand.{Operand}
 use Rattle.s38_rules.specs.declared.object.Object.{Object}
-use Rattle.s38_rules.specs.Grants.{with_granted, with_retracted, rights_of, row_or_public, taker_rule, user_at, with_rights, xfro_fails}
-use Rattle.s38_rules.specs.Held.{Held, change_in, has_number, object, object_in}
-use Rattle.s38_rules.specs.Operands.{is_given, rights_at, target}
-use Rattle.s38_rules.specs.Standing.{restand, standing_of, with_standing}
+use Rattle.s38_rules.specs.families.Grants.{with_granted, with_retracted, taker_rule, xfro_fails}
+use Rattle.s38_rules.specs.families.AuthorityReads.{row_or_public}
+use Rattle.s38_rules.specs.families.Grantees.{rights_of, user_at, with_rights}
+use Rattle.s38_rules.specs.state.Held.{Held, change_in, has_number, object, object_in}
+use Rattle.s38_rules.specs.ask.Operands.{is_given, rights_at, target}
+use Rattle.s38_rules.specs.state.Access.{access_of, on_access, with_access}
 use Rattle.s38_rules.proofs.RuleLaws.{first_none}
 
 -- the new owner may own its pages
@@ -23,24 +25,24 @@ changed_alike n f g (o ∷ os) same =
       | false ↦ λ alike. ap (λ xs. o ∷ xs) (changed_alike n f g os alike)
     ] same
 
-rights_there : (b : Bool) (user : ObjNum) (o : Object) → rights_of b user (standing_of o) ≡ row_or_public b (Some o) user.0
+rights_there : (b : Bool) (user : ObjNum) (o : Object) → rights_of b user (access_of o) ≡ row_or_public b (Some o) user.0
 rights_there true user o = refl
 rights_there false user o = refl
 
 -- the rights that a user or everybody has from those of now on are told by those of the object that is there
 rights_changed : (h : Held) (n : ℕ) (b : Bool) (user : ObjNum) (f : ℕ → ℕ)
-    → restand h n (λ s. with_rights b user (f (rights_of b user s)) s) ≡ restand h n (with_rights b user (f (row_or_public b (object h n) user.0)))
+    → on_access h n (λ s. with_rights b user (f (rights_of b user s)) s) ≡ on_access h n (with_rights b user (f (row_or_public b (object h n) user.0)))
 rights_changed h n b user f =
     let alike = λ (o : Object) (found : object h n ≡ Some o).
-    ap (λ r. with_standing (with_rights b user (f r) (standing_of o)) o) (rw found (rights_there b user o)) in
+    ap (λ r. with_access (with_rights b user (f r) (access_of o)) o) (rw found (rights_there b user o)) in
     ap (λ os. record h { objects = os }) (changed_alike n _ _ h.objects alike)
 
 -- rights are added to those that there are
 pub rights_added : (h : Held) (ops : List Operand)
-    → restand h (target h ops 1) (with_rights (is_given ops 2) (user_at h ops 2) (bit_or (row_or_public (is_given ops 2) (object h (target h ops 1)) (target h ops 2)) (rights_at ops 3))) ≡ restand h (target h ops 1) (with_granted h ops)
+    → on_access h (target h ops 1) (with_rights (is_given ops 2) (user_at h ops 2) (bit_or (row_or_public (is_given ops 2) (object h (target h ops 1)) (target h ops 2)) (rights_at ops 3))) ≡ on_access h (target h ops 1) (with_granted h ops)
 rights_added h ops = sym (rights_changed h (target h ops 1) (is_given ops 2) (user_at h ops 2) (λ r. bit_or r (rights_at ops 3)))
 
 -- rights are taken from those that there are
 pub rights_taken : (h : Held) (ops : List Operand)
-    → restand h (target h ops 1) (with_rights (is_given ops 2) (user_at h ops 2) (bit_and (row_or_public (is_given ops 2) (object h (target h ops 1)) (target h ops 2)) (255 - rights_at ops 3))) ≡ restand h (target h ops 1) (with_retracted h ops)
+    → on_access h (target h ops 1) (with_rights (is_given ops 2) (user_at h ops 2) (bit_and (row_or_public (is_given ops 2) (object h (target h ops 1)) (target h ops 2)) (255 - rights_at ops 3))) ≡ on_access h (target h ops 1) (with_retracted h ops)
 rights_taken h ops = sym (rights_changed h (target h ops 1) (is_given ops 2) (user_at h ops 2) (λ r. bit_and r (255 - rights_at ops 3)))

@@ -1,66 +1,30 @@
-//! Authority over objects: granted and retracted, an object given to another owner, and what is available looked at.
-ghost use Rattle.s38_rules.specs.State.{State};
-ghost use Rattle.s38_rules.specs.Changes.{done};
-ghost use Rattle.std.specs.Prelude.{◌≡◌, ◌==◌, None, IfOk, OnOk, OnErr, length, map};
-ghost use Rattle.std.specs.List.{list_any};
+//! Authority over objects: granted and retracted, and an object given to another owner. The instructions of their family.
+ghost use Rattle.s38_rules.specs.state.State.{State};
+ghost use Rattle.s38_rules.specs.families.Changes.{done};
+ghost use Rattle.std.specs.Prelude.{◌≡◌, None, IfOk, OnOk, OnErr, length};
 ghost use Rattle.std.specs.Option.{option_copied};
-ghost use Rattle.s38_rules.specs.Grants.{given_to, grant_fails, grant_needs, grants_row, matau_gives, matau_needs, matauobj_gives, matauobj_needs, matauobj_special, row_or_public, row_rule, testau_gives, testau_needs, truth, user_at, user_needs, with_granted, with_retracted, with_rights, xfro_fails, xfro_needs};
-ghost use Rattle.s38_rules.specs.Headers.{row_in, rows_in};
-ghost use Rattle.s38_rules.specs.Held.{object};
-ghost use Rattle.s38_rules.specs.Operands.{is_given, target};
-ghost use Rattle.s38_rules.specs.Standing.{restand};
+ghost use Rattle.s38_rules.specs.families.Grants.{given_to, grant_fails, grant_needs, grants_row, with_granted, with_retracted, xfro_fails, xfro_needs};
+ghost use Rattle.s38_rules.specs.families.Grantees.{row_rule, user_at, with_rights};
+ghost use Rattle.s38_rules.specs.state.Headers.{rows_in};
+ghost use Rattle.s38_rules.specs.ask.Operands.{is_given, target};
+ghost use Rattle.s38_rules.specs.state.Access.{on_access};
 
-use crate::images::{authority_image, concerns_image, public_in};
-use s38_authority::{available, has_rights};
+use crate::authority_reads::{
+    matau_gives, matau_needs, matauobj_gives, matauobj_special, rights_of, row_in, testau_gives,
+    user_needs,
+};
 use s38_base::exceptions::LIMIT_EXCEEDED;
 use s38_base::limits::MOST_ROWS;
-use s38_base::{
-    Bytes, Category, Exception, Kind, NoMemory, ObjNum, Op, Pointer, Rights, Special, UserNum,
-};
+use s38_base::{Category, Exception, Kind, NoMemory, ObjNum, Op, Rights, Special, UserNum};
 use s38_changes::{give_to, set_public, set_row, taker_rule};
 use s38_code::{Operand, Val};
 use s38_invoke::{Core, Profiles};
 use s38_objects::Objects;
-use s38_operands::{
-    Act, Needs, fails, fitted, governed, is_given, on_object, pointer_at, rights_at, room_at,
-    target,
-};
+use s38_operands::{Act, Needs, fails, governed, is_given, on_object, rights_at, target};
 use s38_rules::{Claim, Object, Sought};
 use std::alloc::Global;
 
-// ---- whose authority
-
-/// A profile at an operand, of which no right is asked; everybody needs none.
-fn user_needs(operands: &[Operand], k: u8) -> Needs
-    ensures { result ≡ user_needs operands.now k }
-{
-    if !is_given(operands, k as usize) {
-        return Needs::none();
-    }
-    on_object(k, Sought::Of(Kind::Profile), Rights(0), None)
-}
-
-/// The rights of a user by its row on an object, whether the user is there or not.
-fn row_in(found: Option<&Object>, user: UserNum) -> Rights
-    ensures { result.0 ≡ row_in (option_copied found.entry) user.0 }
-{
-    match found {
-        None => Rights(0),
-        Some(object) => object.rows.rights_of(user),
-    }
-}
-
-/// The rights that a user has by its row on an object, or those of everybody where no user is given.
-fn rights_of(objects: &Objects, operands: &[Operand], at: usize, k: usize) -> Rights
-    ensures { result.0 ≡ row_or_public (is_given operands.now k) (object objects.now (target objects.now operands.now at)) (target objects.now operands.now k) }
-{
-    let found = objects.get(target(objects, operands, at));
-    if is_given(operands, k) {
-        row_in(found, target(objects, operands, k))
-    } else {
-        public_in(found)
-    }
-}
+// ---- rows
 
 fn rows_of(found: Option<&Object>) -> usize
     ensures { result ≡ length (rows_in (option_copied found.entry)) }
@@ -83,14 +47,14 @@ fn row_rule(objects: &Objects, number: ObjNum, user: UserNum, rights: Rights) ->
 // ---- GRANT and RETRACT
 
 /// The rule of granting on the object, and a profile or everybody.
-#[tactic(auto, unfolding(s38_rules::specs::Grants::grant_needs))]
+#[tactic(auto, unfolding(s38_rules::specs::families::Grants::grant_needs))]
 fn grant_needs(operands: &[Operand]) -> Needs
     ensures { result ≡ grant_needs operands.now }
 {
     governed(Claim::Granting, 1, rights_at(operands, 3)).and(user_needs(operands, 2))
 }
 
-#[tactic(auto, unfolding(s38_rules::specs::Grants::grant_fails))]
+#[tactic(auto, unfolding(s38_rules::specs::families::Grants::grant_fails))]
 fn grant_fails(objects: &Objects, operands: &[Operand]) -> Option<Exception>
     ensures { result ≡ grant_fails objects.now operands.now }
 {
@@ -111,7 +75,7 @@ fn set_rights(
     operands: &[Operand],
     rights: Rights,
 ) -> Result<(), NoMemory>
-    ensures ok { OnOk result (world.new ≡ record world.old { held = restand world.old.held (target world.old.held operands.now 1) (with_rights (is_given operands.now 2) (user_at world.old.held operands.now 2) rights.0) }) }
+    ensures ok { OnOk result (world.new ≡ record world.old { held = on_access world.old.held (target world.old.held operands.now 1) (with_rights (is_given operands.now 2) (user_at world.old.held operands.now 2) rights.0) }) }
     ensures err { OnErr result (world.new ≡ world.old) }
 {
     let number = target(&world.objects, operands, 1);
@@ -125,7 +89,7 @@ fn set_rights(
 
 /// The rights are added; where memory is refused nothing changes.
 fn grant(world: &mut Core<Objects, Profiles>, operands: &[Operand]) -> Result<(), NoMemory>
-    ensures ok { OnOk result (world.new ≡ record world.old { held = restand world.old.held (target world.old.held operands.now 1) (with_granted world.old.held operands.now) }) }
+    ensures ok { OnOk result (world.new ≡ record world.old { held = on_access world.old.held (target world.old.held operands.now 1) (with_granted world.old.held operands.now) }) }
     ensures err { OnErr result (world.new ≡ world.old) }
 {
     let present = rights_of(&world.objects, operands, 1, 2);
@@ -135,7 +99,7 @@ fn grant(world: &mut Core<Objects, Profiles>, operands: &[Operand]) -> Result<()
 
 /// The rights are taken away; what pointers carry stays.
 fn retract(world: &mut Core<Objects, Profiles>, operands: &[Operand]) -> Result<(), NoMemory>
-    ensures ok { OnOk result (world.new ≡ record world.old { held = restand world.old.held (target world.old.held operands.now 1) (with_retracted world.old.held operands.now) }) }
+    ensures ok { OnOk result (world.new ≡ record world.old { held = on_access world.old.held (target world.old.held operands.now 1) (with_retracted world.old.held operands.now) }) }
     ensures err { OnErr result (world.new ≡ world.old) }
 {
     let present = rights_of(&world.objects, operands, 1, 2);
@@ -146,7 +110,7 @@ fn retract(world: &mut Core<Objects, Profiles>, operands: &[Operand]) -> Result<
 // ---- XFRO
 
 /// Ownership of the object, and a profile.
-#[tactic(auto, unfolding(s38_rules::specs::Grants::xfro_needs))]
+#[tactic(auto, unfolding(s38_rules::specs::families::Grants::xfro_needs))]
 fn xfro_needs() -> Needs
     ensures { result ≡ xfro_needs }
 {
@@ -155,7 +119,7 @@ fn xfro_needs() -> Needs
 }
 
 /// The new owner may own the object's pages, and a row is left for it.
-#[tactic(auto, unfolding(s38_rules::specs::Grants::xfro_fails))]
+#[tactic(auto, unfolding(s38_rules::specs::families::Grants::xfro_fails))]
 fn xfro_fails(world: &Core<Objects, Profiles>, operands: &[Operand]) -> Option<Exception>
     ensures { result ≡ xfro_fails world.now.held operands.now }
 {
@@ -171,7 +135,7 @@ fn xfro_fails(world: &Core<Objects, Profiles>, operands: &[Operand]) -> Option<E
 #[tactic(auto, using(crate::proofs::GrantLaws::xfro_taken))]
 fn xfro(world: &mut Core<Objects, Profiles>, operands: &[Operand]) -> Result<(), NoMemory>
     requires { xfro_fails world.old.held operands.now ≡ None }
-    ensures ok { OnOk result (world.new ≡ record world.old { held = restand world.old.held (target world.old.held operands.now 1) (given_to (user_at world.old.held operands.now 2)) }) }
+    ensures ok { OnOk result (world.new ≡ record world.old { held = on_access world.old.held (target world.old.held operands.now 1) (given_to (user_at world.old.held operands.now 2)) }) }
     ensures err { OnErr result (world.new ≡ world.old) }
 {
     let number = target(&world.objects, operands, 1);
@@ -179,98 +143,10 @@ fn xfro(world: &mut Core<Objects, Profiles>, operands: &[Operand]) -> Result<(),
     give_to(world, number, user)
 }
 
-// ---- TESTAU
-
-/// A binary number of two bytes.
-fn truth(alloc: Global, holds: bool) -> Result<Bytes, NoMemory>
-    ensures { IfOk result (λ bytes. bytes ≡ truth holds) }
-{
-    Bytes::from_slice(alloc, &[0, u8::from(holds)])
-}
-
-/// 1 where all the rights are available.
-#[tactic(auto, unfolding(s38_rules::specs::Grants::testau_bytes))]
-fn testau_gives(
-    alloc: Global,
-    world: &Core<Objects, Profiles>,
-    process: u32,
-    depth: u16,
-    operands: &[Operand],
-) -> Result<Val, NoMemory>
-    ensures { IfOk result (λ value. value ≡ testau_gives world.now process depth operands.now) }
-{
-    let users = world.acting(process, depth);
-    let number = target(&world.objects, operands, 2);
-    let carried = Pointer::carried(pointer_at(&world.objects, operands, 2));
-    let there = available(world, users.as_slice(), number, carried);
-    Ok(Val::Bytes(truth(alloc, has_rights(rights_at(operands, 3), there))?))
-}
-
-// ---- MATAU
-
-/// Object management on the object, and a profile or everybody.
-#[tactic(auto, unfolding(s38_rules::specs::Grants::matau_needs))]
-fn matau_needs(operands: &[Operand]) -> Needs
-    ensures { result ≡ matau_needs operands.now }
-{
-    on_object(2, Sought::Any, Rights::OBJMGT, Some(Category::Read)).and(user_needs(operands, 3))
-}
-
-/// The owner, the rights of everybody, and those of the user's row.
-#[tactic(auto, unfolding(s38_rules::specs::Grants::matau_bytes))]
-fn matau_gives(alloc: Global, objects: &Objects, operands: &[Operand]) -> Result<Val, NoMemory>
-    ensures { IfOk result (λ value. value ≡ matau_gives objects.now operands.now) }
-{
-    let found = objects.get(target(objects, operands, 2));
-    let rights = rights_of(objects, operands, 2, 3);
-    let image = authority_image(alloc, found, rights)?;
-    let bytes = fitted(alloc, room_at(operands, 1), 0, image.as_slice())?;
-    Ok(Val::Bytes(bytes))
-}
-
-// ---- MATAUOBJ
-
-fn acts(users: &[UserNum], user: UserNum) -> bool
-    ensures { result ≡ list_any (λ acting. acting == user.0) (map (λ u. u.0) users.now) }
-{
-    match users {
-        [] => false,
-        [acting, more @ ..] => acting.0 == user.0 || acts(more, user),
-    }
-}
-
-/// The special authority over profiles, but for one's own.
-#[tactic(auto, unfolding(s38_rules::specs::Grants::matauobj_special))]
-fn matauobj_special(
-    world: &Core<Objects, Profiles>,
-    process: u32,
-    depth: u16,
-    operands: &[Operand],
-) -> Special
-    ensures { result.0 ≡ matauobj_special world.now process depth operands.now }
-{
-    let users = world.acting(process, depth);
-    if acts(users.as_slice(), target(&world.objects, operands, 2)) {
-        Special(0)
-    } else {
-        Special::PROFILE
-    }
-}
-
-/// The number of the objects that the user owns or has a row on, and each in order of number.
-#[tactic(auto, unfolding(s38_rules::specs::Grants::matauobj_bytes))]
-fn matauobj_gives(alloc: Global, objects: &Objects, operands: &[Operand]) -> Result<Val, NoMemory>
-    ensures { IfOk result (λ value. value ≡ matauobj_gives objects.now operands.now) }
-{
-    let image = concerns_image(alloc, objects, target(objects, operands, 2))?;
-    let bytes = fitted(alloc, room_at(operands, 1), 0, image.as_slice())?;
-    Ok(Val::Bytes(bytes))
-}
-
 // ---- the family
 
 /// What an instruction of authority needs.
-#[tactic(auto, unfolding(s38_rules::specs::Grants::grants_row, s38_rules::specs::Grants::testau_needs, s38_rules::specs::Grants::matauobj_needs))]
+#[tactic(auto, unfolding(s38_rules::specs::families::Grants::grants_row, s38_rules::specs::families::AuthorityReads::testau_needs, s38_rules::specs::families::AuthorityReads::matauobj_needs))]
 pub fn needs(act: Act<'_>) -> Needs
     ensures { (s : State) → result ≡ (grants_row act.entry.request.now.op).needs s act.entry.process act.entry.depth act.entry.request.now }
 {
@@ -291,7 +167,7 @@ pub fn needs(act: Act<'_>) -> Needs
 }
 
 /// The special authority that an acting user must have.
-#[tactic(auto, unfolding(s38_rules::specs::Grants::grants_row))]
+#[tactic(auto, unfolding(s38_rules::specs::families::Grants::grants_row))]
 pub fn special(world: &Core<Objects, Profiles>, act: Act<'_>) -> Special
     ensures { result.0 ≡ (grants_row act.entry.request.now.op).special world.now act.entry.process act.entry.depth act.entry.request.now }
 {
@@ -307,7 +183,7 @@ pub fn special(world: &Core<Objects, Profiles>, act: Act<'_>) -> Special
 }
 
 /// The first of its conditions and limits that fails.
-#[tactic(auto, unfolding(s38_rules::specs::Grants::grants_row))]
+#[tactic(auto, unfolding(s38_rules::specs::families::Grants::grants_row))]
 pub fn conditions(world: &Core<Objects, Profiles>, act: Act<'_>) -> Option<Exception>
     ensures { result ≡ (grants_row act.entry.request.now.op).fails world.now act.entry.process act.entry.depth act.entry.request.now }
 {
@@ -320,7 +196,7 @@ pub fn conditions(world: &Core<Objects, Profiles>, act: Act<'_>) -> Option<Excep
 }
 
 /// The value for its receiver.
-#[tactic(auto, unfolding(s38_rules::specs::Grants::grants_row))]
+#[tactic(auto, unfolding(s38_rules::specs::families::Grants::grants_row))]
 pub fn value(
     alloc: Global,
     world: &Core<Objects, Profiles>,
@@ -338,7 +214,7 @@ pub fn value(
 }
 
 /// What it changes, where it doesn't fail; where memory is refused nothing changes.
-#[tactic(auto, unfolding(s38_rules::specs::Grants::grants_row))]
+#[tactic(auto, unfolding(s38_rules::specs::families::Grants::grants_row))]
 pub fn apply(
     alloc: Global,
     world: &mut Core<Objects, Profiles>,

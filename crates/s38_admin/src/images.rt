@@ -2,9 +2,9 @@
 ghost use Rattle.std.specs.Prelude.{◌≡◌, ◌++◌, ◌∷◌, [], filter, length, IfOk, OnOk};
 ghost use Rattle.std.specs.List.{flat_map};
 ghost use Rattle.std.specs.Option.{option_copied};
-ghost use Rattle.s38_rules.specs.Grants.{authority_image, concern_image, concerns, concerns_image};
-ghost use Rattle.s38_rules.specs.Headers.{public_in};
-ghost use Rattle.s38_rules.specs.Held.{owner_in};
+ghost use Rattle.s38_rules.specs.families.AuthorityReads.{authority_image, concern_image, concerns, concerns_image};
+ghost use Rattle.s38_rules.specs.state.Headers.{public_in};
+ghost use Rattle.s38_rules.specs.state.Held.{owner_in};
 
 use s38_base::{Bytes, NoMemory, ObjNum, Rights, UserNum};
 use s38_objects::Objects;

@@ -1,6 +1,6 @@
 //! The image of a list of names.
 ghost use Rattle.std.specs.Prelude.{◌≡◌, map, IfOk};
-ghost use Rattle.s38_rules.specs.Contexts.{character, name_image, names_image};
+ghost use Rattle.s38_rules.specs.families.ContextLists.{character, name_image, names_image};
 
 use s38_base::{Bytes, Name, NoMemory, ObjNum};
 use s38_operands::{count_image, fitted};

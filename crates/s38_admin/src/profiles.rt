@@ -1,12 +1,12 @@
 //! User profiles: made, changed and destroyed. Each needs the special authority over profiles.
-ghost use Rattle.s38_rules.specs.State.{State};
-ghost use Rattle.s38_rules.specs.Changes.{done};
-ghost use Rattle.s38_rules.specs.Operands.{target};
-ghost use Rattle.s38_rules.specs.Parts.{set_profile};
+ghost use Rattle.s38_rules.specs.state.State.{State};
+ghost use Rattle.s38_rules.specs.families.Changes.{done};
+ghost use Rattle.s38_rules.specs.ask.Operands.{target};
+ghost use Rattle.s38_rules.specs.state.PartsAt.{set_profile};
 ghost use Rattle.std.specs.Prelude.{◌≡◌, None, IfOk, OnOk, OnErr};
 ghost use Rattle.std.specs.List.{list_any};
 ghost use Rattle.std.specs.Option.{option_copied};
-ghost use Rattle.s38_rules.specs.Profiles.{crtup_changes, crtup_fails, desup_fails, is_live, is_needed, is_user, limit_at, modup_fails, modup_needs, new_profile, owns, profile_body, profiles_row, specials_at};
+ghost use Rattle.s38_rules.specs.families.Profiles.{crtup_changes, crtup_fails, desup_fails, is_live, is_needed, is_user, limit_at, modup_fails, modup_needs, new_profile, owns, profile_body, profiles_row, specials_at};
 
 use s38_base::exceptions::OBJECT_IN_USE;
 use s38_base::{Category, Exception, Kind, NoMemory, Op, Rights, Special, UserNum};
@@ -59,7 +59,7 @@ fn profile_body(operands: &[Operand]) -> Body
     }
 }
 
-#[tactic(auto, unfolding(s38_rules::specs::Profiles::crtup_fails))]
+#[tactic(auto, unfolding(s38_rules::specs::families::Profiles::crtup_fails))]
 fn crtup_fails(
     world: &Core<Objects, Profiles>,
     process: u32,
@@ -90,7 +90,7 @@ fn crtup(
 // ---- MODUP
 
 /// The security officer stays as it is.
-#[tactic(auto, unfolding(s38_rules::specs::Profiles::modup_fails))]
+#[tactic(auto, unfolding(s38_rules::specs::families::Profiles::modup_fails))]
 fn modup_fails(objects: &Objects, operands: &[Operand]) -> Option<Exception>
     ensures { result ≡ modup_fails objects.now operands.now }
 {
@@ -141,7 +141,7 @@ fn is_needed(world: &Core<Objects, Profiles>, user: UserNum) -> bool
     user.0 == OFFICER || is_owner(world, user) || has_process(world.processes.as_slice(), user)
 }
 
-#[tactic(auto, unfolding(s38_rules::specs::Profiles::desup_fails))]
+#[tactic(auto, unfolding(s38_rules::specs::families::Profiles::desup_fails))]
 fn desup_fails(world: &Core<Objects, Profiles>, operands: &[Operand]) -> Option<Exception>
     ensures { result ≡ desup_fails world.now operands.now }
 {
@@ -152,7 +152,7 @@ fn desup_fails(world: &Core<Objects, Profiles>, operands: &[Operand]) -> Option<
 // ---- the family
 
 /// What an instruction of profiles needs.
-#[tactic(auto, unfolding(s38_rules::specs::Profiles::profiles_row, s38_rules::specs::Profiles::modup_needs))]
+#[tactic(auto, unfolding(s38_rules::specs::families::Profiles::profiles_row, s38_rules::specs::families::Profiles::modup_needs))]
 pub fn needs(act: Act<'_>) -> Needs
     ensures { (s : State) → result ≡ (profiles_row act.entry.request.now.op).needs s act.entry.process act.entry.depth act.entry.request.now }
 {
@@ -166,7 +166,7 @@ pub fn needs(act: Act<'_>) -> Needs
 }
 
 /// The special authority over profiles.
-#[tactic(auto, unfolding(s38_rules::specs::Profiles::profiles_row))]
+#[tactic(auto, unfolding(s38_rules::specs::families::Profiles::profiles_row))]
 pub fn special(act: Act<'_>) -> Special
     ensures { (s : State) → result.0 ≡ (profiles_row act.entry.request.now.op).special s act.entry.process act.entry.depth act.entry.request.now }
 {
@@ -177,7 +177,7 @@ pub fn special(act: Act<'_>) -> Special
 }
 
 /// The first of its conditions and limits that fails.
-#[tactic(auto, unfolding(s38_rules::specs::Profiles::profiles_row))]
+#[tactic(auto, unfolding(s38_rules::specs::families::Profiles::profiles_row))]
 pub fn conditions(world: &Core<Objects, Profiles>, act: Act<'_>) -> Option<Exception>
     ensures { result ≡ (profiles_row act.entry.request.now.op).fails world.now act.entry.process act.entry.depth act.entry.request.now }
 {
@@ -191,7 +191,7 @@ pub fn conditions(world: &Core<Objects, Profiles>, act: Act<'_>) -> Option<Excep
 }
 
 /// The value for its receiver.
-#[tactic(auto, unfolding(s38_rules::specs::Profiles::profiles_row))]
+#[tactic(auto, unfolding(s38_rules::specs::families::Profiles::profiles_row))]
 pub fn value(
     alloc: Global,
     world: &Core<Objects, Profiles>,
@@ -210,7 +210,7 @@ pub fn value(
 }
 
 /// What it changes, where it doesn't fail; where memory is refused nothing changes.
-#[tactic(auto, unfolding(s38_rules::specs::Profiles::profiles_row))]
+#[tactic(auto, unfolding(s38_rules::specs::families::Profiles::profiles_row))]
 pub fn apply(
     alloc: Global,
     world: &mut Core<Objects, Profiles>,

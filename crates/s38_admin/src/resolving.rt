@@ -1,7 +1,7 @@
 //! Pointers to objects: by identification, and from other pointers.
 ghost use Rattle.std.specs.Prelude.{◌≡◌, Some, None, IfOk, map};
 ghost use Rattle.std.specs.Option.{option_copied};
-ghost use Rattle.s38_rules.specs.Resolving.{carried_rights, context_at, context_read, first_place, is_context_in, listed_need, may_search, pointer_to, resolved, resolved_by, resolving_row, rslvsp_fails, rslvsp_gives, rslvsp_needs, search_in, setspfp_gives};
+ghost use Rattle.s38_rules.specs.families.Resolving.{carried_rights, context_at, context_read, first_place, is_context_in, listed_need, may_search, pointer_to, resolved, resolved_by, resolving_row, rslvsp_fails, rslvsp_gives, rslvsp_needs, search_in, setspfp_gives};
 
 use s38_authority::{available, has_rights, missing};
 use s38_base::exceptions::OBJECT_NOT_FOUND;
@@ -46,7 +46,7 @@ fn may_search(
             .is_none()
 }
 
-#[tactic(auto, unfolding(s38_rules::specs::Resolving::search_in))]
+#[tactic(auto, unfolding(s38_rules::specs::families::Resolving::search_in))]
 fn search_in(
     world: &Core<Objects, Profiles>,
     process: u32,
@@ -73,7 +73,7 @@ fn search_in(
     }
 }
 
-// ---- what an identification stands for
+// ---- what an identification names
 
 /// The context that operand 2 names: the machine's, or that of the pointer.
 pub fn context_at(objects: &Objects, operands: &[Operand]) -> ObjNum
@@ -128,7 +128,7 @@ fn resolved_by(
     }
 }
 
-/// The object that operands 2 and 3 of RSLVSP stand for.
+/// The object that operands 2 and 3 of RSLVSP name.
 fn resolved(
     world: &Core<Objects, Profiles>,
     process: u32,
@@ -165,7 +165,7 @@ fn listed_need(located: Option<Located>) -> Needs
     }
 }
 
-#[tactic(auto, unfolding(s38_rules::specs::Resolving::rslvsp_needs))]
+#[tactic(auto, unfolding(s38_rules::specs::families::Resolving::rslvsp_needs))]
 fn rslvsp_needs(
     world: &Core<Objects, Profiles>,
     process: u32,
@@ -208,7 +208,7 @@ fn carried_rights(
 }
 
 /// The object is found; where the pointer is to carry rights, they and AUTPTR are available on it.
-#[tactic(auto, unfolding(s38_rules::specs::Resolving::rslvsp_fails))]
+#[tactic(auto, unfolding(s38_rules::specs::families::Resolving::rslvsp_fails))]
 fn rslvsp_fails(
     world: &Core<Objects, Profiles>,
     process: u32,
@@ -234,7 +234,7 @@ fn pointer_to(rights: Rights, located: Option<Located>) -> Option<Pointer>
     }
 }
 
-#[tactic(auto, unfolding(s38_rules::specs::Resolving::rslvsp_gives))]
+#[tactic(auto, unfolding(s38_rules::specs::families::Resolving::rslvsp_gives))]
 fn rslvsp_gives(
     world: &Core<Objects, Profiles>,
     process: u32,
@@ -250,7 +250,7 @@ fn rslvsp_gives(
 // ---- SETSPFP
 
 /// A pointer to the object, without rights.
-#[tactic(auto, unfolding(s38_rules::specs::Resolving::setspfp_gives))]
+#[tactic(auto, unfolding(s38_rules::specs::families::Resolving::setspfp_gives))]
 fn setspfp_gives(objects: &Objects, operands: &[Operand]) -> Val
     ensures { result ≡ setspfp_gives objects.now operands.now }
 {
@@ -266,7 +266,7 @@ fn setspfp_gives(objects: &Objects, operands: &[Operand]) -> Val
 // ---- the family, which changes nothing
 
 /// What an instruction of resolving needs.
-#[tactic(auto, unfolding(s38_rules::specs::Resolving::resolving_row, s38_rules::specs::Resolving::setspfp_needs))]
+#[tactic(auto, unfolding(s38_rules::specs::families::Resolving::resolving_row, s38_rules::specs::families::Resolving::setspfp_needs))]
 pub fn needs(world: &Core<Objects, Profiles>, act: Act<'_>) -> Needs
     ensures { result ≡ (resolving_row act.entry.request.now.op).needs world.now act.entry.process act.entry.depth act.entry.request.now }
 {
@@ -290,7 +290,7 @@ pub fn needs(world: &Core<Objects, Profiles>, act: Act<'_>) -> Needs
 }
 
 /// The first of its conditions and limits that fails.
-#[tactic(auto, unfolding(s38_rules::specs::Resolving::resolving_row))]
+#[tactic(auto, unfolding(s38_rules::specs::families::Resolving::resolving_row))]
 pub fn conditions(world: &Core<Objects, Profiles>, act: Act<'_>) -> Option<Exception>
     ensures { result ≡ (resolving_row act.entry.request.now.op).fails world.now act.entry.process act.entry.depth act.entry.request.now }
 {
@@ -306,7 +306,7 @@ pub fn conditions(world: &Core<Objects, Profiles>, act: Act<'_>) -> Option<Excep
 }
 
 /// The value for its receiver.
-#[tactic(auto, unfolding(s38_rules::specs::Resolving::resolving_row))]
+#[tactic(auto, unfolding(s38_rules::specs::families::Resolving::resolving_row))]
 pub fn value(
     alloc: Global,
     world: &Core<Objects, Profiles>,

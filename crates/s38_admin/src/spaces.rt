@@ -1,28 +1,27 @@
-//! Spaces: made, lengthened or cut, and destroyed; pointers into them; copies of cells with their tags.
-ghost use Rattle.s38_rules.specs.State.{State};
-ghost use Rattle.s38_rules.specs.Changes.{done};
-ghost use Rattle.s38_rules.specs.Operands.{cells_put, place, source_cells, target};
-ghost use Rattle.s38_rules.specs.Parts.{on_space};
-ghost use Rattle.std.specs.Prelude.{◌≡◌, ◌≤◌, [], Some, None, IfOk, OnOk, OnErr, true};
-ghost use Rattle.std.specs.Option.{option_copied};
+//! Spaces: made, lengthened or cut, and destroyed. The instructions of their family.
+ghost use Rattle.s38_rules.specs.state.State.{State};
+ghost use Rattle.s38_rules.specs.families.Changes.{done};
+ghost use Rattle.s38_rules.specs.ask.Operands.{target};
+ghost use Rattle.s38_rules.specs.state.PartsAt.{on_space};
+ghost use Rattle.std.specs.Prelude.{◌≡◌, ◌≤◌, [], None, IfOk, OnOk, OnErr, true};
 ghost use Rattle.s38_base.specs.Limits.{furthest};
 ghost use Rattle.s38_memory.specs.Tagged.{resized};
-ghost use Rattle.s38_rules.specs.Spaces.{cpybwp_fails, cpybwp_gives, crts_changes, crts_fails, is_space_length, is_unaligned, length_at, length_rule, mods_fails, new_space, owner_pays, setdp_fails, setdp_gives, setsppfp_gives, spaces_row};
+ghost use Rattle.s38_rules.specs.families.Spaces.{crts_changes, crts_fails, is_space_length, length_at, length_rule, mods_fails, new_space, spaces_row};
 
-use s38_base::exceptions::{BOUNDARY_ALIGNMENT, DECIMAL_DATA, LENGTH_INVALID, SPACE_ADDRESSING};
-use s38_base::{Category, Exception, HeldPointer, Kind, NoMemory, Op, Pointer, Rights};
+use crate::space_pointers::{
+    cpybwp, cpybwp_fails, cpybwp_gives, setdp_fails, setdp_gives, setsppfp_gives,
+};
+use s38_base::exceptions::{DECIMAL_DATA, LENGTH_INVALID};
+use s38_base::{Category, Exception, Kind, NoMemory, Op, Rights};
 use s38_changes::{
     creation_changes, creation_fails, creation_gives, creation_needs, destroy, destruction_needs,
-    in_context, owner_pays, pages_for_length, put_cells, resize,
+    in_context, owner_pays, pages_for_length, resize,
 };
 use s38_code::{Operand, Val};
 use s38_invoke::{Core, Profiles};
 use s38_memory::Tagged;
 use s38_objects::Objects;
-use s38_operands::{
-    Act, Needs, attr_at, count_at, fails, first_pointer, is_aligned, is_in_space, is_within, need,
-    number_at, on_object, place, pointer_at, source_cells, target,
-};
+use s38_operands::{Act, Needs, count_at, fails, need, number_at, on_object, target};
 use s38_rules::{Body, Creating, Named, PointerKind, Sought};
 use std::alloc::Global;
 
@@ -68,7 +67,7 @@ fn new_space(world: &Core<Objects, Profiles>, operands: &[Operand]) -> Creating
     in_context(Kind::Space, pages, &world.objects, operands)
 }
 
-#[tactic(auto, unfolding(s38_rules::specs::Spaces::crts_fails))]
+#[tactic(auto, unfolding(s38_rules::specs::families::Spaces::crts_fails))]
 fn crts_fails(
     world: &Core<Objects, Profiles>,
     process: u32,
@@ -154,7 +153,7 @@ fn crts(
 // ---- MODS
 
 /// The owner of the space pays for its new length.
-#[tactic(auto, unfolding(s38_rules::specs::Spaces::mods_fails))]
+#[tactic(auto, unfolding(s38_rules::specs::families::Spaces::mods_fails))]
 fn mods_fails(world: &Core<Objects, Profiles>, operands: &[Operand]) -> Option<Exception>
     ensures { result ≡ mods_fails world.now operands.now }
 {
@@ -178,111 +177,10 @@ fn mods(world: &mut Core<Objects, Profiles>, operands: &[Operand]) -> Result<(),
     resize(world, space, len)
 }
 
-// ---- pointers into spaces
-
-/// A pointer to the first byte of the space.
-#[tactic(auto, unfolding(s38_rules::specs::Spaces::setsppfp_gives))]
-fn setsppfp_gives(objects: &Objects, operands: &[Operand]) -> Val
-    ensures { result ≡ setsppfp_gives objects.now operands.now }
-{
-    match pointer_at(objects, operands, 2) {
-        None => Val::Ptr(HeldPointer::of(None)),
-        Some(pointer) => Val::Ptr(HeldPointer::of(Some(Pointer::Space {
-            object: pointer.object(),
-            offset: 0,
-        }))),
-    }
-}
-
-/// The item lies inside the space.
-#[tactic(auto, unfolding(s38_rules::specs::Spaces::setdp_fails))]
-fn setdp_fails(objects: &Objects, operands: &[Operand]) -> Option<Exception>
-    ensures { result ≡ setdp_fails objects.now operands.now }
-{
-    let at = Pointer::start(pointer_at(objects, operands, 2), 0);
-    let space = objects.space(target(objects, operands, 2));
-    let len = attr_at(operands, 3).length();
-    fails(!is_within(space, at, len), SPACE_ADDRESSING, 2)
-}
-
-/// A pointer to an item of the attribute.
-#[tactic(auto, unfolding(s38_rules::specs::Spaces::setdp_gives))]
-fn setdp_gives(objects: &Objects, operands: &[Operand]) -> Val
-    ensures { result ≡ setdp_gives objects.now operands.now }
-{
-    match pointer_at(objects, operands, 2) {
-        None => Val::Ptr(HeldPointer::of(None)),
-        Some(pointer) => Val::Ptr(HeldPointer::of(Some(Pointer::Item {
-            object: pointer.object(),
-            offset: pointer.offset(),
-            attr: attr_at(operands, 3),
-        }))),
-    }
-}
-
-// ---- CPYBWP
-
-fn is_unaligned(operand: Option<&Operand>) -> bool
-    ensures { result ≡ is_unaligned (option_copied operand.entry) }
-{
-    match operand {
-        Some(Operand::InSpace { base, offset, .. }) => !is_aligned(Pointer::start(
-            base.get(),
-            *offset,
-        )),
-        _ => false,
-    }
-}
-
-/// What is copied, and where it goes, begins with a cell.
-#[tactic(auto, unfolding(s38_rules::specs::Spaces::cpybwp_fails))]
-fn cpybwp_fails(operands: &[Operand]) -> Option<Exception>
-    ensures { result ≡ cpybwp_fails operands.now }
-{
-    if is_unaligned(place(operands, 1)) {
-        return Some(Exception::plain(BOUNDARY_ALIGNMENT, 1));
-    }
-    fails(is_unaligned(place(operands, 2)), BOUNDARY_ALIGNMENT, 2)
-}
-
-/// A variable gets the pointer of the cell.
-#[tactic(auto, unfolding(s38_rules::specs::Spaces::cpybwp_gives))]
-fn cpybwp_gives(
-    alloc: Global,
-    objects: &Objects,
-    operands: &[Operand],
-) -> Result<Option<Val>, NoMemory>
-    ensures { IfOk result (λ value. value ≡ cpybwp_gives objects.now operands.now) }
-{
-    if is_in_space(place(operands, 1)) {
-        return Ok(None);
-    }
-    let cells = source_cells(alloc, objects, operands, 2)?;
-    Ok(Some(Val::Ptr(HeldPointer::of(first_pointer(cells.as_slice())))))
-}
-
-/// Cells go with their tags into the space.
-fn cpybwp(
-    alloc: Global,
-    world: &mut Core<Objects, Profiles>,
-    operands: &[Operand],
-) -> Result<(), NoMemory>
-    ensures ok { OnOk result (world.new ≡ record world.old { held = cells_put world.old.held (place operands.now 1) (source_cells world.old.held operands.now 2) }) }
-    ensures err { OnErr result (world.new ≡ world.old) }
-{
-    match source_cells(alloc, &world.objects, operands, 2) {
-        Ok(cells) => {
-            put_cells(world, place(operands, 1), cells.as_slice());
-            Ok(())
-        }
-        Err(fault) => Err(fault),
-    }
-}
-
 // ---- the family
 
 /// What an instruction of spaces needs.
-#[tactic(auto, unfolding(s38_rules::specs::Spaces::spaces_row, s38_rules::specs::Spaces::mods_needs, s38_rules::specs::Spaces::setsppfp_needs, s38_rules::specs::Spaces::setdp_needs))]
+#[tactic(auto, unfolding(s38_rules::specs::families::Spaces::spaces_row, s38_rules::specs::families::Spaces::mods_needs, s38_rules::specs::families::SpacePointers::setsppfp_needs, s38_rules::specs::families::SpacePointers::setdp_needs))]
 pub fn needs(act: Act<'_>) -> Needs
     ensures { (s : State) → result ≡ (spaces_row act.entry.request.now.op).needs s act.entry.process act.entry.depth act.entry.request.now }
 {
@@ -305,7 +203,7 @@ pub fn needs(act: Act<'_>) -> Needs
 }
 
 /// The first of its conditions and limits that fails.
-#[tactic(auto, unfolding(s38_rules::specs::Spaces::spaces_row))]
+#[tactic(auto, unfolding(s38_rules::specs::families::Spaces::spaces_row))]
 pub fn conditions(world: &Core<Objects, Profiles>, act: Act<'_>) -> Option<Exception>
     ensures { result ≡ (spaces_row act.entry.request.now.op).fails world.now act.entry.process act.entry.depth act.entry.request.now }
 {
@@ -320,7 +218,7 @@ pub fn conditions(world: &Core<Objects, Profiles>, act: Act<'_>) -> Option<Excep
 }
 
 /// The value for its receiver.
-#[tactic(auto, unfolding(s38_rules::specs::Spaces::spaces_row))]
+#[tactic(auto, unfolding(s38_rules::specs::families::Spaces::spaces_row))]
 pub fn value(
     alloc: Global,
     world: &Core<Objects, Profiles>,
@@ -340,7 +238,7 @@ pub fn value(
 }
 
 /// What it changes, where it doesn't fail; where memory is refused nothing changes.
-#[tactic(auto, unfolding(s38_rules::specs::Spaces::spaces_row))]
+#[tactic(auto, unfolding(s38_rules::specs::families::Spaces::spaces_row))]
 pub fn apply(
     alloc: Global,
     world: &mut Core<Objects, Profiles>,

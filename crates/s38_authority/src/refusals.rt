@@ -1,6 +1,6 @@
 //! The exceptions of users who lack authority.
 ghost use Rattle.std.specs.Prelude.{◌≡◌, map};
-ghost use Rattle.s38_rules.specs.Authority.{lacks_special, missing};
+ghost use Rattle.s38_rules.specs.ask.Authority.{lacks_special, missing};
 
 use crate::rights::{Missing, missing_in};
 use crate::users::is_special;
@@ -24,7 +24,7 @@ pub fn missing(operand: u8, needed: Rights, there: Rights) -> Option<Exception>
 }
 
 /// The exception of an instruction that needs a special authority, where no acting user has it.
-#[tactic(auto, unfolding(s38_rules::specs::Authority::lacks_special))]
+#[tactic(auto, unfolding(s38_rules::specs::ask::Authority::lacks_special))]
 pub fn lacks_special<T: Table, P: UserMaps>(
     world: &Core<T, P>,
     users: &[UserNum],

@@ -2,9 +2,9 @@
 ghost use Rattle.std.specs.Prelude.{◌≡◌, map};
 ghost use Rattle.std.specs.Option.{option_map};
 ghost use Rattle.std.specs.Result.{result_err};
-ghost use Rattle.s38_rules.specs.Authority.{available, has_rights, missing_in, source_by, sources_by, sources_on};
-ghost use Rattle.s38_rules.specs.Headers.{public_in, public_of};
-ghost use Rattle.s38_rules.specs.Held.{object};
+ghost use Rattle.s38_rules.specs.ask.Authority.{available, has_rights, missing_in, source_by, sources_by, sources_on};
+ghost use Rattle.s38_rules.specs.state.Headers.{public_in, public_of};
+ghost use Rattle.s38_rules.specs.state.Held.{object};
 
 use crate::users::has_special;
 use s38_base::{ObjNum, Rights, Special, UserNum};
@@ -23,7 +23,7 @@ pub fn has_rights(needed: Rights, there: Rights) -> bool
 }
 
 /// The rights that a user brings to an object with these rights of everybody.
-#[tactic(auto, unfolding(s38_rules::specs::Authority::source_by))]
+#[tactic(auto, unfolding(s38_rules::specs::ask::Authority::source_by))]
 fn source_by<T: Table, P: UserMaps>(
     world: &Core<T, P>,
     number: ObjNum,
@@ -76,7 +76,7 @@ fn sources_on<T: Table, P: UserMaps>(
 /// The rights that are available to these users on an object, whose rights of everybody are looked up already, with
 /// those that the used pointer carries: none but those without the object.
 #[inline(always)]
-#[tactic(auto, unfolding(s38_rules::specs::Authority::available))]
+#[tactic(auto, unfolding(s38_rules::specs::ask::Authority::available))]
 pub fn available_on<T: Table, P: UserMaps>(
     world: &Core<T, P>,
     users: &[UserNum],

@@ -1,7 +1,7 @@
 //! Special authorities, and ownership.
 ghost use Rattle.std.specs.Prelude.{◌≡◌, map};
-ghost use Rattle.s38_rules.specs.Authority.{governs, has_special, is_governed, is_special};
-ghost use Rattle.s38_rules.specs.Held.{object, owner_in};
+ghost use Rattle.s38_rules.specs.ask.Authority.{governs, has_special, is_governed, is_special};
+ghost use Rattle.s38_rules.specs.state.Held.{object, owner_in};
 
 use crate::rights::has_rights;
 use s38_base::{ObjNum, Rights, Special, UserNum};
@@ -62,7 +62,7 @@ fn governs<T: Table, P: UserMaps>(
     user.0 == owner.0 || has_special(world, Special::ALLOBJ, user)
 }
 
-#[tactic(auto, unfolding(s38_rules::specs::Authority::is_governed))]
+#[tactic(auto, unfolding(s38_rules::specs::ask::Authority::is_governed))]
 fn is_governed_by<T: Table, P: UserMaps>(
     world: &Core<T, P>,
     number: ObjNum,

@@ -85,7 +85,7 @@ front_orders (suc n) m (x ∷ xs) (y ∷ ys) hx hy h =
       ]
     ]
 
--- where the numbers are one and no byte stands behind, the texts are one
+-- where the numbers are one and no byte comes after, the texts are one
 front_equal : (n m : ℕ) (xs ys : List ℕ) → are_name_bytes xs ≡ true → are_name_bytes ys ≡ true → length xs ≤ n → length ys ≤ n → front m n xs ≡ front m n ys → Equal ≡ slice_cmp nat_cmp xs ys
 front_equal n m [] [] hx hy sx sy e = refl
 front_equal zero m [] (y ∷ ys) hx hy sx sy e = absurd (omega (arith, sy))

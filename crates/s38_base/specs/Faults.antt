@@ -1,12 +1,12 @@
--- Counts of faults: how often a thing outside the program has failed. A count never falls, and stands
--- still at its last value.
+-- Counts of faults: how often a thing outside the program has failed. A count never falls, and stays
+-- at its last value.
 use Rattle.std.specs.Prelude.{◌≡◌, ℕ, ◌+◌, ◌-◌, ◌^◌, ◌≤◌, min, Result, IfErr, OnErr}
 
 -- one more, up to the last value of a count
 abbrev pub counted : ℕ → ℕ
 counted n = min (n + 1) (2 ^ 64 - 1)
 
--- the count rose: it is higher now, or stands at its last value
+-- the count rose: it is higher now, or stays at its last value
 abbrev pub Rose : ℕ → ℕ → Type 0
 Rose before now = counted before ≤ now
 

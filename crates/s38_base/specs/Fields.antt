@@ -1,4 +1,4 @@
--- Numbers that stand in bytes, high byte first.
+-- Numbers that lie in bytes, high byte first.
 use Rattle.std.specs.Prelude.{ℕ, ◌+◌, List, length, drop, Option, Some, None, nat_le, if◌then◌else◌}
 use Rattle.byteorder.specs.Endian.{big_number}
 

@@ -10,4 +10,5 @@ pub mod Pointers
 pub mod Relations
 pub mod RightNames
 pub mod Scalar
+pub mod Attributes
 pub mod Signals

@@ -2,7 +2,7 @@
 use Rattle.std.specs.Prelude.{ℕ, ◌+◌, Bool, true, not, Option, Some, None}
 use Rattle.s38_base.specs.declared.pointer.Pointer.{Pointer}
 use Rattle.s38_base.specs.declared.pointer.Pointer.TheVariants as pointers
-use Rattle.s38_base.specs.Scalar.{is_pointer_attr}
+use Rattle.s38_base.specs.Attributes.{is_pointer_attr}
 use Rattle.s38_base.specs.RightNames as rights
 
 abbrev pub object_of : Pointer → ℕ
@@ -30,7 +30,7 @@ abbrev pub carried_in : Option Pointer → ℕ
 carried_in None = rights.no_rights
 carried_in (Some p) = carried_by p
 
--- the first byte of an item that lies so far behind its base
+-- the first byte of an item at an offset from its base
 abbrev pub start_of : Option Pointer → ℕ → ℕ
 start_of None offset = offset
 start_of (Some p) offset = offset_of p + offset

@@ -34,7 +34,7 @@ abbrev pub is_greater : Ordering → Bool
 is_greater Greater = true
 is_greater _ = false
 
--- whether a relation holds of what stands in this order to the other side; the last three hold always
+-- whether a relation holds of what is in this order to the other side; the last three hold always
 abbrev pub holds : Relation → Ordering → Bool
 holds Eq order = is_equal order
 holds Ne order = not (is_equal order)

@@ -1,69 +1,9 @@
--- What the bytes of a scalar mean: which whole number stands in them, and how a number is written.
+-- What the bytes of a scalar mean: which whole number they hold, and how a number is written.
 use Rattle.std.specs.Prelude.{ℕ, zero, suc, ◌+◌, ◌-◌, ◌*◌, ◌/◌, ◌%◌, ◌^◌, Bool, true, false, ◌&&◌, ◌||◌, ℤ, pos, negsuc, neg_ℤ, unsigned_abs, List, [], map, length, slice_index, Option, Some, None, nat_lt, nat_le, ◌==◌, if◌then◌else◌}
 use Rattle.std.specs.List.{range_with_len}
 use Rattle.s38_base.specs.declared.attr.Attr.{Attr}
 use Rattle.s38_base.specs.declared.attr.Attr.TheVariants.{Packed, Zoned, Binary, Chars, Pointer}
-
--- ---- what an attribute says
-
--- how many bytes it has
-abbrev pub length_of : Attr → ℕ
-length_of (Packed digits fraction) = digits / 2 + 1
-length_of (Zoned digits fraction) = digits
-length_of (Binary size) = size
-length_of (Chars len) = len
-length_of Pointer = 16
-
--- how many decimal digits its numbers have at most
-abbrev pub digits_of : Attr → ℕ
-digits_of (Packed digits fraction) = digits
-digits_of (Zoned digits fraction) = digits
-digits_of (Binary size) = if size == 2 then 5 else 10
-digits_of (Chars len) = 0
-digits_of Pointer = 0
-
--- how many of the digits stand behind the point
-abbrev pub fraction_of : Attr → ℕ
-fraction_of (Packed digits fraction) = fraction
-fraction_of (Zoned digits fraction) = fraction
-fraction_of (Binary size) = 0
-fraction_of (Chars len) = 0
-fraction_of Pointer = 0
-
--- 1 to 31 digits, and no more behind the point than there are
-abbrev pub are_digits : ℕ → ℕ → Bool
-are_digits digits fraction = nat_le 1 digits && (nat_le digits 31 && nat_le fraction digits)
-
--- it is that of a number, and keeps its bounds
-abbrev pub is_numeric : Attr → Bool
-is_numeric (Packed digits fraction) = are_digits digits fraction
-is_numeric (Zoned digits fraction) = are_digits digits fraction
-is_numeric (Binary size) = (size == 2) || (size == 4)
-is_numeric (Chars len) = false
-is_numeric Pointer = false
-
--- it keeps the bounds of a declaration; bytes are 1 to 4,096
-abbrev pub is_bounded : Attr → Bool
-is_bounded (Packed digits fraction) = are_digits digits fraction
-is_bounded (Zoned digits fraction) = are_digits digits fraction
-is_bounded (Binary size) = (size == 2) || (size == 4)
-is_bounded (Chars len) = nat_le 1 len && nat_le len 4096
-is_bounded Pointer = true
-
-abbrev pub is_pointer_attr : Attr → Bool
-is_pointer_attr (Packed digits fraction) = false
-is_pointer_attr (Zoned digits fraction) = false
-is_pointer_attr (Binary size) = false
-is_pointer_attr (Chars len) = false
-is_pointer_attr Pointer = true
-
-abbrev pub same_attr : Attr → Attr → Bool
-same_attr (Packed digits fraction) (Packed others behind) = (digits == others) && (fraction == behind)
-same_attr (Zoned digits fraction) (Zoned others behind) = (digits == others) && (fraction == behind)
-same_attr (Binary size) (Binary other) = size == other
-same_attr (Chars len) (Chars other) = len == other
-same_attr Pointer Pointer = true
-same_attr _ _ = false
+use Rattle.s38_base.specs.Attributes.{digits_of, is_numeric, length_of}
 
 -- ---- which numbers it holds, in units of its last digit
 
@@ -89,7 +29,7 @@ fits attr z = is_numeric attr && fits_size attr z
 abbrev pub half_byte : List ℕ → ℕ → ℕ
 half_byte bytes k = if k % 2 == 0 then slice_index bytes (k / 2) / 16 else slice_index bytes (k / 2) % 16
 
--- how many half bytes stand before the digits of a packed number: one where their count is even
+-- how many half bytes come before the digits of a packed number: one where their count is even
 abbrev pub half_bytes_before : ℕ → ℕ
 half_bytes_before digits = 1 - digits % 2
 
@@ -157,14 +97,14 @@ meaning_of (Binary size) bytes = Some (twos_complement size (number_from 256 (sl
 meaning_of (Chars len) bytes = None
 meaning_of Pointer bytes = None
 
--- the whole number that stands in the bytes, in units of the last digit. Bytes of another length, other
+-- the whole number that the bytes hold, in units of the last digit. Bytes of another length, other
 -- bytes than the form allows, and attributes that are not of a number have none
 unfoldable pub value_of : Attr → List ℕ → Option ℤ
 value_of attr bytes = if is_numeric attr && (length bytes == length_of attr) then meaning_of attr bytes else None
 
 -- ---- how a number is written
 
--- the digit of n that has k digits behind it
+-- the digit of n that has k digits after it
 abbrev pub digit_at : ℕ → ℕ → ℕ → ℕ
 digit_at base n k = n / base ^ k % base
 
@@ -189,9 +129,9 @@ bits_of size (pos n) = n
 bits_of size (negsuc n) = 2 ^ (8 * size) - suc n
 
 -- the bytes that are written for a number that fits
-unfoldable pub image_of : Attr → ℤ → List ℕ
-image_of (Packed digits fraction) z = map (packed_byte (digits / 2) z) (range_with_len 0 (digits / 2 + 1))
-image_of (Zoned digits fraction) z = map (zoned_byte digits z) (range_with_len 0 digits)
-image_of (Binary size) z = map (λ k. digit_at 256 (bits_of size z) (size - 1 - k)) (range_with_len 0 size)
-image_of (Chars len) z = []
-image_of Pointer z = []
+unfoldable pub scalar_image : Attr → ℤ → List ℕ
+scalar_image (Packed digits fraction) z = map (packed_byte (digits / 2) z) (range_with_len 0 (digits / 2 + 1))
+scalar_image (Zoned digits fraction) z = map (zoned_byte digits z) (range_with_len 0 digits)
+scalar_image (Binary size) z = map (λ k. digit_at 256 (bits_of size z) (size - 1 - k)) (range_with_len 0 size)
+scalar_image (Chars len) z = []
+scalar_image Pointer z = []

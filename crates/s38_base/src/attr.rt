@@ -1,5 +1,5 @@
 ghost use Rattle.std.specs.Prelude.{◌≡◌};
-ghost use Rattle.s38_base.specs.Scalar.{are_digits};
+ghost use Rattle.s38_base.specs.Attributes.{are_digit_counts};
 
 /// What a scalar or a pointer is: its form and its length.
 #[derive(Clone, Copy, PartialEq, Eq, PartialOrd, Ord, Debug)]
@@ -16,15 +16,15 @@ pub enum Attr {
     Pointer,
 }
 
-/// 1 to 31 digits, and no more behind the point than there are.
+/// 1 to 31 digits, and no more after the point than there are.
 fn are_digits(digits: u8, fraction: u8) -> bool
-    ensures { result ≡ are_digits digits fraction }
+    ensures { result ≡ are_digit_counts digits fraction }
 {
     1 <= digits && digits <= 31 && fraction <= digits
 }
 
 impl Attr {
-    ghost use Rattle.s38_base.specs.Scalar.{digits_of, fraction_of, is_bounded, is_numeric, is_pointer_attr, length_of, same_attr};
+    ghost use Rattle.s38_base.specs.Attributes.{digits_of, fraction_of, is_bounded, is_numeric, is_pointer_attr, length_of, same_attr};
 
     /// How many bytes a value has.
     pub fn length(self) -> u16
@@ -52,7 +52,7 @@ impl Attr {
         }
     }
 
-    /// How many of the digits stand behind the point.
+    /// How many of the digits are after the point.
     pub fn fraction(self) -> u8
         ensures { result ≡ fraction_of self }
     {

@@ -8,7 +8,7 @@ use smallvec::SmallVec;
 use std::alloc::Global;
 use std::marker::Model;
 
-/// Bytes of a value, of any number: up to sixteen stand in the value itself, and more on the heap. Contracts see them as
+/// Bytes of a value, of any number: up to sixteen lie in the value itself, and more on the heap. Contracts see them as
 /// the list of the bytes.
 #[derive(Drop, Debug)]
 pub struct Bytes {

@@ -82,7 +82,7 @@ pub const NAME_MISSING: u16 = 0x2A07;
 pub const LABEL_MISSING: u16 = 0x2A08;
 /// There is no such entry.
 pub const NO_ENTRY: u16 = 0x5001;
-/// No entry stands at the position.
+/// There is no entry at the position.
 pub const POSITION_EMPTY: u16 = 0x5002;
 /// The data space is not journaled to the block's port.
 pub const NOT_JOURNALED: u16 = 0x5003;

@@ -22,7 +22,7 @@ pub struct Name {
 impl Model for Name {
     ghost use Rattle.std.specs.Prelude.{ℕ, List, length, take};
     ghost use Rattle.std.proofs.Common.{ap};
-    ghost use Rattle.s38_base.specs.NameText.{IsPadded, padded, fields-take};
+    ghost use Rattle.s38_base.specs.NameText.{IsPadded, fields-take, padded};
 
     ghost Value = { List ℕ };
 
@@ -76,7 +76,7 @@ impl Name {
         })
     }
 
-    /// The first eight bytes as one number, the first byte the greatest; zeros stand behind a short name.
+    /// The first eight bytes as one number, the first byte the greatest; a short name is filled up with zeros.
     #[inline(always)]
     #[tactic(auto, using(crate::proofs::NameOrder::head_is))]
     fn head(&self) -> u64
@@ -95,7 +95,7 @@ impl Name {
         ])
     }
 
-    /// The name has no byte behind its head.
+    /// The name has no byte after its head.
     #[inline(always)]
     fn is_short(&self) -> bool
         ensures { result ≡ nat_le (length self.now) 8 }
@@ -112,9 +112,9 @@ impl Name {
     }
 }
 
-/// How two names stand to one another, byte by byte.
+/// The order of two names, byte by byte.
 #[inline(never)]
-fn order_behind(name: &Name, other: &Name) -> Ordering
+fn order_by_bytes(name: &Name, other: &Name) -> Ordering
     ensures { result ≡ slice_cmp nat_cmp name.now other.now }
 {
     name.as_bytes().cmp(other.as_bytes())
@@ -162,6 +162,6 @@ impl Ord for Name {
         if self.is_short() && other.is_short() {
             return Ordering::Equal;
         }
-        order_behind(self, other)
+        order_by_bytes(self, other)
     }
 }

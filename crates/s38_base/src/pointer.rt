@@ -90,7 +90,7 @@ impl Pointer {
         }
     }
 
-    /// The first byte of an item that lies so far behind its base.
+    /// The first byte of an item at an offset from its base.
     pub fn start(base: Option<Pointer>, offset: u32) -> u64
         ensures start { result ≡ start_of base offset }
         ensures small { result < 2 ^ 33 }

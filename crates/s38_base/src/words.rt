@@ -72,7 +72,7 @@ impl Relation {
         }
     }
 
-    /// It holds of what stands in this order to the other side; ANY, FIRST and LAST hold always.
+    /// Whether it holds of what is in this order to the other side; ANY, FIRST and LAST hold always.
     #[inline(always)]
     pub fn holds(self, order: Ordering) -> bool
         ensures { result ≡ holds self order }

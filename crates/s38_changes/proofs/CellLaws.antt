@@ -7,16 +7,16 @@ use Rattle.s38_base.specs.declared.pointer.Pointer.{Pointer}
 use Rattle.s38_base.specs.Pointers.{is_storable}
 use Rattle.s38_memory.specs.declared.cell.Cell.{Cell}
 use Rattle.s38_memory.specs.declared.cell.Cell.TheVariants.{Tagged}
-use Rattle.s38_memory.specs.Tagged.{is_aligned, is_within, overlaid, resized, written}
-use Rattle.s38_rules.specs.Cells.{is_cell, with_bytes, with_cells, with_pointer}
+use Rattle.s38_memory.specs.Tagged.{cells_written, is_aligned, is_within, overlaid, resized}
+use Rattle.s38_rules.specs.state.Cells.{is_cell, with_bytes, with_cells, with_pointer}
 
-written_length : (at : ℕ) (bytes : List ℕ) (cells : List Cell) → length (written at bytes cells) ≡ length cells
+written_length : (at : ℕ) (bytes : List ℕ) (cells : List Cell) → length (cells_written at bytes cells) ≡ length cells
 written_length at bytes [] = refl
 written_length at bytes (cell ∷ cells) = omega (arith, written_length (at - 16) (drop (16 - at) bytes) cells)
 
 pub bytes_length : (at : ℕ) (bytes : List ℕ) (cells : List Cell) → length (with_bytes at bytes cells) ≡ length cells
 bytes_length at bytes cells =
-    elim (is_within at (length bytes) cells) as (λ b. length (cond b (written at bytes cells) cells) ≡ length cells) [
+    elim (is_within at (length bytes) cells) as (λ b. length (cond b (cells_written at bytes cells) cells) ≡ length cells) [
       | true ↦ written_length at bytes cells
       | false ↦ refl
     ]

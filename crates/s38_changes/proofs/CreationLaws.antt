@@ -4,18 +4,19 @@ use Rattle.std.proofs.lemmas.Bool.Decides.{nat_tests}
 use Rattle.s38_base.specs.declared.exception.Exception.{Exception}
 use Rattle.s38_base.specs.Limits.{last_number, most_objects}
 use Rattle.s38_rules.specs.declared.creating.Creating.{Creating}
-use Rattle.s38_rules.specs.Creation.{creation_fails, creation_limits, is_taken, limit_in, maker_rows, number_rule, pages_rule}
+use Rattle.s38_rules.specs.families.Creation.{creation_fails, creation_limits, is_taken, limit_in, maker_rows, number_rule, pages_rule}
 use Rattle.s38_base.specs.declared.id.ObjNum.{ObjNum}
 use Rattle.s38_objects.specs.Lawful.{is_place}
 use Rattle.s38_profiles.specs.ProfileMaps.{ProfileMaps}
 use Rattle.s38_profiles.specs.Rows.{Rows, SetsRow, row_key}
 use Rattle.s38_profiles.specs.Users.{SetsUser, charge_in as charge_of, user_at}
 use Rattle.s38_rules.specs.declared.object.Object.{Object}
-use Rattle.s38_rules.specs.Held.{Held, charge_in, home, is_there, object, pages_of, with_object}
-use Rattle.s38_rules.specs.Keeping.{paid}
-use Rattle.s38_rules.specs.Kept.{Mirrors, profile_by}
+use Rattle.s38_rules.specs.state.Held.{Held, charge_in, home, is_there, object, pages_of, with_object}
+use Rattle.s38_rules.specs.state.Keeping.{paid}
+use Rattle.s38_rules.specs.state.Kept.{Mirrors, profile_by}
 use Rattle.s38_rules.proofs.ChargeLaws.{some_page}
-use Rattle.s38_changes.proofs.KeptLaws.{AreGiven, added_kept}
+use Rattle.s38_changes.proofs.KeptLaws.{AreGiven}
+use Rattle.s38_changes.proofs.AddRemoveLaws.{added_kept}
 use Rattle.s38_rules.proofs.RuleLaws.{fails_none, first_none}
 
 left_by : (h : Held) → number_rule h ≡ None → h.next ≤ 2 ^ 62

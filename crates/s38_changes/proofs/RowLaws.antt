@@ -6,8 +6,8 @@ use Rattle.std.specs.Prelude.{◌&&◌, Option, Some, None, find}
 use Rattle.s38_base.specs.declared.rights.Rights.{Rights}
 use Rattle.s38_profiles.specs.Rows.{Rows, SetsRow, row_at, row_key}
 use Rattle.s38_rules.specs.declared.rows.PrivateRow.{PrivateRow}
-use Rattle.s38_rules.specs.Kept.{kept_row}
-use Rattle.s38_rules.specs.PrivateRows.{AreRows, is_row, rights_in, row_of}
+use Rattle.s38_rules.specs.state.Kept.{kept_row}
+use Rattle.s38_rules.specs.state.PrivateRows.{AreRows, is_row, rights_in, row_of}
 use Rattle.s38_rules.proofs.RowLaws.{none_below}
 
 number_same : (a b : ℕ) → (a == b) ≡ true → a ≡ b

@@ -12,28 +12,31 @@ use Rattle.s38_profiles.specs.declared.profile.Profile.{Profile}
 use Rattle.s38_profiles.specs.ProfileMaps.{ProfileMaps}
 use Rattle.s38_profiles.specs.Rows.{Rows, SetsRow, row_at, row_key, row_with}
 use Rattle.s38_profiles.specs.Users.{SetsUser, Users, charge_in as charge_of, entered, limit_in as kept_limit, user_at}
-use Rattle.s38_objects.specs.Lawful.{IsLawful}
+use Rattle.s38_objects.specs.Lawful.{IsObjectMap}
 use Rattle.s38_rules.specs.declared.object.Body.{Body}
 use Rattle.s38_rules.specs.declared.object.Body.TheVariants as bodies
 use Rattle.s38_rules.specs.declared.object.Object.{Object}
-use Rattle.s38_rules.specs.Creation.{limit_in}
-use Rattle.s38_rules.specs.Grants.{taker_rule}
-use Rattle.s38_rules.specs.Headers.{limit_of}
-use Rattle.s38_rules.specs.Held.{Held, change, change_in, charge_beside, charge_in, has_number, object, owner_in, pages_of, without, without_in}
-use Rattle.s38_rules.specs.Keeping.{paid}
-use Rattle.s38_rules.specs.Kept.{Mirrors, kept_profile, profile_by}
-use Rattle.s38_rules.specs.Parts.{on_space, part_in, profile_part, set_profile, space_part}
-use Rattle.s38_rules.specs.PrivateRows.{AreRows}
-use Rattle.s38_rules.specs.Standing.{granted, owned_by, restand, standing_of, with_standing}
-use Rattle.s38_rules.specs.State.{State}
-use Rattle.s38_rules.specs.Spaces.{owner_pays, pages_for_length}
+use Rattle.s38_rules.specs.families.Creation.{limit_in}
+use Rattle.s38_rules.specs.families.Grants.{taker_rule}
+use Rattle.s38_rules.specs.state.Headers.{limit_of}
+use Rattle.s38_rules.specs.state.Held.{Held, change, change_in, charge_beside, charge_in, has_number, object, owner_in, pages_of, without, without_in}
+use Rattle.s38_rules.specs.state.Keeping.{paid}
+use Rattle.s38_rules.specs.state.Kept.{Mirrors, kept_profile, profile_by}
+use Rattle.s38_rules.specs.state.Parts.{part_in, profile_part, space_part}
+use Rattle.s38_rules.specs.state.PartsAt.{on_space, set_profile}
+use Rattle.s38_rules.specs.state.PrivateRows.{AreRows}
+use Rattle.s38_rules.specs.state.Access.{access_of, granted, on_access, owned_by, with_access}
+use Rattle.s38_rules.specs.state.State.{State}
+use Rattle.s38_rules.specs.families.Spaces.{owner_pays, pages_for_length}
 use Rattle.s38_rules.proofs.ChargeLaws.{AreRising, KeepsNumber, beside_found, change_absent, charge_without, found_number, own_pages, pages_within, rising_by, some_page}
 use Rattle.s38_rules.proofs.PartLaws.{part_kept}
 use Rattle.s38_rules.proofs.RuleLaws.{fails_none}
 use Rattle.s38_rules.proofs.UserLaws.{charge_kept, is_user, user_there}
 use Rattle.s38_changes.proofs.CellLaws.{resized_length}
 use Rattle.s38_changes.proofs.LimitLaws.{without_absent}
-use Rattle.s38_changes.proofs.KeptLaws.{charge_read, given_by, given_kept, gone_kept, granted_kept, profile_kept, read_kept, resized_kept}
+use Rattle.s38_changes.proofs.KeptLaws.{charge_read, given_by, granted_kept, profile_kept, read_kept}
+use Rattle.s38_changes.proofs.AddRemoveLaws.{gone_kept}
+use Rattle.s38_changes.proofs.PaymentLaws.{given_kept, resized_kept}
 
 -- where there is no object of the number, a change leaves all
 none_changed : (h : Held) (n : ℕ) (f : Object → Object) → object h n ≡ None → change h n f ≡ h
@@ -55,7 +58,7 @@ changed_twice n f g (o ∷ os) keeps =
 
 -- a row that is set, or refused
 pub row_set : (maps after : ProfileMaps) (h more : Held) (n : ℕ) (o : Object) (user : ObjNum) (r : Rights) (result : Result (Unit {0}) NoMemory) → object h n ≡ Some o → AreRows o.rows
-    → OnOk result (more ≡ restand h n (granted user r)) → OnOk result (SetsRow maps.rows (row_key user.0 n) (row_with r) after.rows) → after.users ≡ maps.users
+    → OnOk result (more ≡ on_access h n (granted user r)) → OnOk result (SetsRow maps.rows (row_key user.0 n) (row_with r) after.rows) → after.users ≡ maps.users
     → OnErr result (more ≡ h) → OnErr result ((other m : ℕ) → row_at after.rows (row_key other m) ≡ row_at maps.rows (row_key other m)) → Mirrors maps h → Mirrors after more
 row_set maps after h more n o user r (Ok x) found are ok set users err same m =
     subst (λ (k : Held). Mirrors after k) (sym ok) (granted_kept maps after h n o user r found are set users m)
@@ -129,21 +132,21 @@ limit_read : (maps : ProfileMaps) (h : Held) (user : ℕ) → Mirrors maps h →
 limit_read maps h user m = ap kept_limit (m.users user) ∙ limit_kept (object h user) (charge_in h.objects user)
 
 -- an object is another user's, who has a row and pays for it
-pub restood : (h set owned : Held) (n : ℕ) (user : ObjNum) (r : Rights) → set ≡ restand h n (granted user r) → owned ≡ restand set n (owned_by user) → owned ≡ restand h n (λ s. owned_by user (granted user r s))
-restood h set owned n user r first then =
-    then ∙ ap (λ (k : Held). restand k n (owned_by user)) first
+pub standing_merged : (h set owned : Held) (n : ℕ) (user : ObjNum) (r : Rights) → set ≡ on_access h n (granted user r) → owned ≡ on_access set n (owned_by user) → owned ≡ on_access h n (λ s. owned_by user (granted user r s))
+standing_merged h set owned n user r first then =
+    then ∙ ap (λ (k : Held). on_access k n (owned_by user)) first
     ∙ ap (λ (os : List Object). record h { objects = os })
-    (changed_twice n (λ o. with_standing (granted user r (standing_of o)) o) (λ o. with_standing (owned_by user (standing_of o)) o) h.objects (λ o. refl))
+    (changed_twice n (λ o. with_access (granted user r (access_of o)) o) (λ o. with_access (owned_by user (access_of o)) o) h.objects (λ o. refl))
 
-pub object_given : (maps both lessened after : ProfileMaps) (h set owned : Held) (n : ℕ) (o : Object) (user : ObjNum) (r : Rights) (pages : ℕ) → IsLawful h → object h n ≡ Some o → AreRows o.rows
+pub object_given : (maps both lessened after : ProfileMaps) (h set owned : Held) (n : ℕ) (o : Object) (user : ObjNum) (r : Rights) (pages : ℕ) → IsObjectMap h → object h n ≡ Some o → AreRows o.rows
     → taker_rule h n user.0 (object h n) ≡ None → pages ≡ pages_of o.body
-    → set ≡ restand h n (granted user r) → SetsRow maps.rows (row_key user.0 n) (row_with r) both.rows → both.users ≡ maps.users → owned ≡ restand set n (owned_by user)
+    → set ≡ on_access h n (granted user r) → SetsRow maps.rows (row_key user.0 n) (row_with r) both.rows → both.users ≡ maps.users → owned ≡ on_access set n (owned_by user)
     → SetsUser both.users o.owner.0 (paid (charge_of (user_at both.users o.owner.0) - pages) (user_at both.users o.owner.0)) lessened.users → lessened.rows ≡ both.rows
     → SetsUser lessened.users user.0 (paid (charge_of (user_at lessened.users user.0) + pages) (user_at lessened.users user.0)) after.users → after.rows ≡ lessened.rows
     → Mirrors maps h → Mirrors after owned
 object_given maps both lessened after h set owned n o user r pages lawful found are rule is first row users then less less_rows more more_rows m =
     let a : ℕ = o.owner.0 in
-    subst (λ (k : Held). Mirrors after k) (sym (restood h set owned n user r first then))
+    subst (λ (k : Held). Mirrors after k) (sym (standing_merged h set owned n user r first then))
     (given_kept maps after lessened.users h n o user r (given_by h lawful.given) found are (taker_there maps h n user.0 o found rule m)
     (subst (λ (us : Users). SetsUser us a (paid (charge_of (user_at us a) - pages_of o.body) (user_at us a)) lessened.users) users
     (subst (λ (k : ℕ). SetsUser both.users a (paid (charge_of (user_at both.users a) - k) (user_at both.users a)) lessened.users) is less))
@@ -152,7 +155,7 @@ object_given maps both lessened after h set owned n o user r pages lawful found 
     m)
 
 -- what the new owner pays for can be counted
-pub given_counted : (maps both lessened : ProfileMaps) (h : Held) (n : ℕ) (o : Object) (user limit pages : ℕ) → IsLawful h → object h n ≡ Some o
+pub given_counted : (maps both lessened : ProfileMaps) (h : Held) (n : ℕ) (o : Object) (user limit pages : ℕ) → IsObjectMap h → object h n ≡ Some o
     → taker_rule h n user (object h n) ≡ None → pages ≡ pages_of o.body → both.users ≡ maps.users → limit ≡ kept_limit (user_at maps.users user) → limit < 2 ^ 32
     → SetsUser both.users o.owner.0 (paid (charge_of (user_at both.users o.owner.0) - pages) (user_at both.users o.owner.0)) lessened.users
     → Mirrors maps h → charge_of (user_at lessened.users user) + pages < 2 ^ 64
@@ -213,7 +216,7 @@ pub none_gone : (h : Held) (n : ℕ) → object h n ≡ None → without h n ≡
 none_gone h n none = ap (λ (os : List Object). record h { objects = os }) (without_absent n h.objects none)
 
 -- an object that is taken out is forgotten
-pub forgotten : (maps after : ProfileMaps) (h : Held) (n : ℕ) (o : Object) → IsLawful h → object h n ≡ Some o
+pub forgotten : (maps after : ProfileMaps) (h : Held) (n : ℕ) (o : Object) → IsObjectMap h → object h n ≡ Some o
     → ((user m : ℕ) → row_at after.rows (row_key user m) ≡ cond (o.number.0 == m) None (row_at maps.rows (row_key user m)))
     → ((user : ℕ) → user_at after.users user ≡ cond (o.number.0 == user) None (cond (o.owner.0 == user) (paid (charge_of (user_at maps.users o.owner.0) - pages_of o.body) (user_at maps.users o.owner.0)) (user_at maps.users user)))
     → Mirrors maps h → Mirrors after (without h n)
@@ -250,7 +253,7 @@ length_kept maps after h n len o cells found e set same m =
     omega (arith, kept, within, many))
     set same m
 
-pub length_counted : (maps : ProfileMaps) (h : Held) (n len limit : ℕ) (o : Object) → IsLawful h → object h n ≡ Some o → owner_pays h n (pages_for_length len) ≡ None
+pub length_counted : (maps : ProfileMaps) (h : Held) (n len limit : ℕ) (o : Object) → IsObjectMap h → object h n ≡ Some o → owner_pays h n (pages_for_length len) ≡ None
     → limit ≡ kept_limit (user_at maps.users o.owner.0) → limit < 2 ^ 32 → Mirrors maps h
     → charge_of (user_at maps.users o.owner.0) - pages_of o.body + pages_for_length len < 2 ^ 64
 length_counted maps h n len limit o lawful found rule is small m =

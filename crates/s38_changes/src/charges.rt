@@ -1,12 +1,12 @@
 //! What users pay for, against what their profiles allow.
 ghost use Rattle.std.specs.Prelude.{◌≡◌, ◌+◌, ◌-◌, ◌≤◌, nat_lt};
 ghost use Rattle.std.specs.Option.{option_copied};
-ghost use Rattle.s38_rules.specs.Authority.{counted};
-ghost use Rattle.s38_rules.specs.Creation.{pages_rule};
-ghost use Rattle.s38_rules.specs.Grants.{taker_rule};
-ghost use Rattle.s38_rules.specs.Held.{charge_in, object as object_at, pages_of};
-ghost use Rattle.s38_rules.specs.Profiles.{is_owner};
-ghost use Rattle.s38_rules.specs.Spaces.{owner_pays};
+ghost use Rattle.s38_rules.specs.ask.Authority.{rights_that_count};
+ghost use Rattle.s38_rules.specs.families.Creation.{pages_rule};
+ghost use Rattle.s38_rules.specs.families.Grants.{taker_rule};
+ghost use Rattle.s38_rules.specs.state.Held.{charge_in, object as object_at, pages_of};
+ghost use Rattle.s38_rules.specs.families.Profiles.{is_owner};
+ghost use Rattle.s38_rules.specs.families.Spaces.{owner_pays};
 ghost use Rattle.s38_rules.proofs.ChargeLaws.{AreRising};
 
 use s38_base::exceptions::PAGES_EXCEEDED;
@@ -44,7 +44,7 @@ pub fn pays_more(
 
 /// What the owner of an object pays for beside it; nothing of one that is not there.
 fn paid_beside(world: &Core<Objects, Profiles>, object: &Object) -> u64
-    ensures { result ≡ counted (object_at world.now.held object.now.owner.0) (charge_in world.now.held.objects object.now.owner.0) - pages_of object.now.body }
+    ensures { result ≡ rights_that_count (object_at world.now.held object.now.owner.0) (charge_in world.now.held.objects object.now.owner.0) - pages_of object.now.body }
 {
     world
         .charge(object.owner)
@@ -63,7 +63,7 @@ fn found(objects: &Objects, number: ObjNum) -> Option<&Object>
 }
 
 /// The owner of an object may pay for so many pages of it.
-#[tactic(auto, using(crate::proofs::LimitLaws::nobody_allowed, crate::proofs::LimitLaws::owner_allowed), unfolding(s38_rules::specs::Spaces::owner_pays))]
+#[tactic(auto, using(crate::proofs::LimitLaws::nobody_allowed, crate::proofs::LimitLaws::owner_allowed), unfolding(s38_rules::specs::families::Spaces::owner_pays))]
 pub fn owner_pays(world: &Core<Objects, Profiles>, number: ObjNum, pages: u64) -> Option<Exception>
     requires { 1 ≤ pages }
     ensures { result ≡ owner_pays world.now.held number.0 pages }

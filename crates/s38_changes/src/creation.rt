@@ -1,16 +1,16 @@
 //! How objects are made, whatever their kind: the identification is new in its context, the owner may pay for the
 //! object, and a number is left.
-ghost use Rattle.std.specs.Prelude.{◌≡◌, ◌+◌, ◌≤◌, ◌^◌, ℕ, false, true, IfOk, None, OnOk, OnErr, Option};
-ghost use Rattle.std.specs.Option.{option_copied};
+ghost use Rattle.std.specs.Prelude.{◌≡◌, ◌+◌, ◌≤◌, ◌^◌, ℕ, true, IfOk, None, OnOk, OnErr, Option};
 ghost use Rattle.s38_base.specs.declared.exception.Exception.{Exception};
 ghost use Rattle.s38_objects.specs.Lawful.{is_place, is_place_of};
-ghost use Rattle.s38_rules.specs.Authority.{is_profile};
-ghost use Rattle.s38_rules.specs.Creation.{creation_changes, creation_fails, creation_gives, creation_limits, creation_needs, in_context, is_another, is_taken, is_taken_beside, machine_needs, maker_rows, name_rule, new_object, new_pointer, number_rule, of_kind, of_machine, pages_rule};
-ghost use Rattle.s38_rules.specs.Held.{ceiling_for, charge_in, found, home, object as object_at, pages_of, with_object};
+ghost use Rattle.s38_rules.specs.ask.Authority.{is_profile};
+ghost use Rattle.s38_rules.specs.families.Creation.{creation_changes, creation_fails, creation_gives, creation_limits, creation_needs, in_context, machine_needs, maker_rows, new_object, new_pointer, number_rule, of_machine, pages_rule};
+ghost use Rattle.s38_rules.specs.state.Held.{ceiling_for, charge_in, found, object as object_at, pages_of, with_object};
 
 use crate::charges::pays_more;
+use crate::naming::{home, name_rule, of_kind};
 use crate::users::{pay_within, prepare, take_back};
-use s38_base::exceptions::{DUPLICATE_IDENTIFICATION, LIMIT_EXCEEDED};
+use s38_base::exceptions::LIMIT_EXCEEDED;
 use s38_base::limits::{CEILING_STEP, LAST_NUMBER, MACHINE_CONTEXT, MOST_OBJECTS};
 use s38_base::{
     Category, Exception, HeldPointer, Id, Kind, NoMemory, ObjNum, Pointer, Rights, UserNum,
@@ -21,26 +21,6 @@ use s38_objects::{Objects, pages};
 use s38_operands::{Needs, fails, id_at, is_given, on_implied, on_object, rights_at, target};
 use s38_rules::{Body, Creating, Object, RowList, Sought};
 use std::alloc::Global;
-
-/// A context that is there, or none: what is put into one that is not there is in no context.
-pub fn home(objects: &Objects, context: ObjNum) -> ObjNum
-    ensures { result ≡ home objects.now context.0 }
-{
-    match objects.get(context) {
-        None => ObjNum(0),
-        Some(_) => context,
-    }
-}
-
-/// The same name, of this kind of object.
-fn of_kind(kind: Kind, id: Option<&Id>) -> Option<Id>
-    ensures { result ≡ of_kind kind (option_copied id.entry) }
-{
-    match id {
-        None => None,
-        Some(id) => Some(Id { kind, ..*id }),
-    }
-}
 
 /// An object of the machine context, with the identification of operand 2.
 pub fn of_machine(kind: Kind, public: Rights, objects: &Objects, operands: &[Operand]) -> Creating
@@ -56,7 +36,7 @@ pub fn of_machine(kind: Kind, public: Rights, objects: &Objects, operands: &[Ope
 }
 
 /// INSERT on the machine context.
-#[tactic(auto, unfolding(s38_rules::specs::Creation::machine_needs))]
+#[tactic(auto, unfolding(s38_rules::specs::families::Creation::machine_needs))]
 pub fn machine_needs() -> Needs
     ensures { result ≡ machine_needs }
 {
@@ -82,7 +62,7 @@ pub fn in_context(kind: Kind, pages: u64, objects: &Objects, operands: &[Operand
 }
 
 /// INSERT on the context that the new object is put into, where one is given.
-#[tactic(auto, unfolding(s38_rules::specs::Creation::creation_needs))]
+#[tactic(auto, unfolding(s38_rules::specs::families::Creation::creation_needs))]
 pub fn creation_needs(operands: &[Operand]) -> Needs
     ensures { result ≡ creation_needs operands.now }
 {
@@ -91,42 +71,6 @@ pub fn creation_needs(operands: &[Operand]) -> Needs
     } else {
         Needs::none()
     }
-}
-
-fn is_another(number: ObjNum, found: Option<&Object>) -> bool
-    ensures { result ≡ is_another number.0 (option_copied found.entry) }
-{
-    match found {
-        None => false,
-        Some(object) => object.number.0 != number.0,
-    }
-}
-
-/// Another object of the context than that of the number has the identification.
-pub fn is_taken_beside(objects: &Objects, number: ObjNum, context: ObjNum, id: &Id) -> bool
-    ensures { result ≡ is_taken_beside objects.now number.0 context.0 id.now }
-{
-    is_another(number, objects.find_object(context, id))
-}
-
-fn is_taken(objects: &Objects, context: ObjNum, id: Option<Id>) -> bool
-    ensures { result ≡ is_taken objects.now context.0 id }
-{
-    match id {
-        None => false,
-        Some(id) => objects.find_object(context, &id).is_some(),
-    }
-}
-
-/// Another object of the context has the identification.
-fn name_rule(objects: &Objects, made: &Creating) -> Option<Exception>
-    ensures { result ≡ name_rule objects.now made.now }
-{
-    fails(
-        is_taken(objects, made.context, made.id),
-        DUPLICATE_IDENTIFICATION,
-        made.place,
-    )
 }
 
 fn number_rule(objects: &Objects) -> Option<Exception>
@@ -140,7 +84,7 @@ fn number_rule(objects: &Objects) -> Option<Exception>
 }
 
 /// The owner pays for it, and a number is left.
-#[tactic(auto, unfolding(s38_rules::specs::Creation::creation_limits))]
+#[tactic(auto, unfolding(s38_rules::specs::families::Creation::creation_limits))]
 fn creation_limits(world: &Core<Objects, Profiles>, owner: UserNum, pages: u64) -> Option<Exception>
     requires { 1 ≤ pages }
     ensures { result ≡ creation_limits world.now.held owner.0 pages }
@@ -152,7 +96,7 @@ fn creation_limits(world: &Core<Objects, Profiles>, owner: UserNum, pages: u64) 
 }
 
 /// The identification is new, then the row's own conditions hold, then the limits.
-#[tactic(auto, unfolding(s38_rules::specs::Creation::creation_fails))]
+#[tactic(auto, unfolding(s38_rules::specs::families::Creation::creation_fails))]
 pub fn creation_fails(
     world: &Core<Objects, Profiles>,
     owner: UserNum,
@@ -184,7 +128,7 @@ fn new_pointer(objects: &Objects, id: Option<Id>) -> Option<Pointer>
 }
 
 /// A system pointer to the new object, without rights.
-#[tactic(auto, unfolding(s38_rules::specs::Creation::creation_gives))]
+#[tactic(auto, unfolding(s38_rules::specs::families::Creation::creation_gives))]
 pub fn creation_gives(objects: &Objects, made: &Creating) -> Val
     ensures { result ≡ creation_gives objects.now made.now }
 {
@@ -227,7 +171,7 @@ fn new_object(
     })
 }
 
-/// The ceiling behind the object of this number.
+/// The ceiling after an object of this number is made.
 fn ceiling_for(ceiling: u64, number: u64) -> u64
     requires { number ≤ 2 ^ 62 }
     ensures { result ≡ ceiling_for ceiling number }
@@ -239,7 +183,7 @@ fn ceiling_for(ceiling: u64, number: u64) -> u64
     }
 }
 
-/// A new object stands behind the others; where memory is refused nothing changes.
+/// A new object follows the others; where memory is refused nothing changes.
 fn enter(objects: &mut Objects, object: Object) -> Result<(), NoMemory>
     requires number { object.number.0 ≡ objects.old.next }
     requires small { objects.old.next ≤ 2 ^ 62 }
@@ -270,7 +214,7 @@ fn fresh(objects: &Objects) -> ObjNum
     ObjNum(objects.next_number())
 }
 
-/// A new object stands behind the others, and its owner pays for it and has all rights by a row. Where memory is
+/// A new object follows the others, and its owner pays for it and has all rights by a row. Where memory is
 /// refused nothing changes.
 #[tactic(auto, using(crate::proofs::CreationLaws::addition_kept, crate::proofs::KeptLaws::none_yet, crate::proofs::KeptLaws::no_row_yet))]
 fn add(world: &mut Core<Objects, Profiles>, object: Object) -> Result<(), NoMemory>
@@ -304,7 +248,7 @@ fn add(world: &mut Core<Objects, Profiles>, object: Object) -> Result<(), NoMemo
 }
 
 /// The owner has the new object, which no rule refuses; where memory is refused nothing changes.
-#[tactic(auto, using(crate::proofs::CreationLaws::number_left, crate::proofs::CreationLaws::name_free, crate::proofs::CreationLaws::paid_for), unfolding(s38_rules::specs::Creation::creation_changes))]
+#[tactic(auto, using(crate::proofs::CreationLaws::number_left, crate::proofs::CreationLaws::name_free, crate::proofs::CreationLaws::paid_for), unfolding(s38_rules::specs::families::Creation::creation_changes))]
 pub fn creation_changes(
     alloc: Global,
     world: &mut Core<Objects, Profiles>,

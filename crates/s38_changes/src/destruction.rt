@@ -1,8 +1,8 @@
 //! How objects are destroyed, whatever their kind.
 ghost use Rattle.std.specs.Prelude.{◌≡◌};
-ghost use Rattle.s38_rules.specs.Creation.{destroyed, destruction_needs, is_of_kind};
-ghost use Rattle.s38_rules.specs.Held.{object, without};
-ghost use Rattle.s38_rules.specs.Operands.{target};
+ghost use Rattle.s38_rules.specs.families.Creation.{destroyed, destruction_needs, is_of_kind};
+ghost use Rattle.s38_rules.specs.state.Held.{object, without};
+ghost use Rattle.s38_rules.specs.ask.Operands.{target};
 
 use crate::users::forget;
 use s38_base::{Category, Kind, ObjNum, Rights};
@@ -13,7 +13,7 @@ use s38_operands::{Needs, on_object, target};
 use s38_rules::Sought;
 
 /// Object control on the object that is destroyed.
-#[tactic(auto, unfolding(s38_rules::specs::Creation::destruction_needs))]
+#[tactic(auto, unfolding(s38_rules::specs::families::Creation::destruction_needs))]
 pub fn destruction_needs(kind: Kind) -> Needs
     ensures { result ≡ destruction_needs kind }
 {

@@ -3,10 +3,11 @@ ghost use Rattle.std.specs.Prelude.{◌≡◌, ◌≤◌, ◌%◌, All, OnErr, O
 ghost use Rattle.std.specs.Option.{option_copied};
 ghost use Rattle.s38_memory.specs.Cell.{IsCell};
 ghost use Rattle.s38_memory.specs.Tagged.{resized};
-ghost use Rattle.s38_rules.specs.Cells.{with_bytes, with_cells, with_pointer};
-ghost use Rattle.s38_rules.specs.Operands.{cells_put, put_value};
-ghost use Rattle.s38_rules.specs.Parts.{on_space};
-ghost use Rattle.s38_rules.specs.Spaces.{is_space_length, owner_pays, pages_for_length};
+ghost use Rattle.s38_rules.specs.state.Cells.{with_bytes, with_cells, with_pointer};
+ghost use Rattle.s38_rules.specs.ask.Operands.{cells_put};
+ghost use Rattle.s38_rules.specs.ask.Receivers.{put_value};
+ghost use Rattle.s38_rules.specs.state.PartsAt.{on_space};
+ghost use Rattle.s38_rules.specs.families.Spaces.{is_space_length, owner_pays, pages_for_length};
 
 use crate::users::pay_otherwise;
 use s38_base::{NoMemory, ObjNum, Pointer};

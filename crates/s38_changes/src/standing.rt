@@ -1,15 +1,15 @@
-//! How objects stand, what they are called and where they are.
+//! Whose objects are, who may use them, what they are called and where they are.
 ghost use Rattle.std.specs.Prelude.{◌≡◌, ℕ, OnErr, OnOk, None, false, true};
 ghost use Rattle.s38_objects.specs.Lawful.{is_place};
-ghost use Rattle.s38_rules.specs.Contexts.{is_name_beside};
-ghost use Rattle.s38_rules.specs.Creation.{is_taken_beside};
-ghost use Rattle.s38_rules.specs.Grants.{taker_rule};
+ghost use Rattle.s38_rules.specs.families.Contexts.{is_name_beside};
+ghost use Rattle.s38_rules.specs.families.Creation.{is_taken_beside};
+ghost use Rattle.s38_rules.specs.families.Grants.{taker_rule};
 ghost use Rattle.s38_profiles.specs.Rows.{SetsRow, row_at, row_key, row_with};
-ghost use Rattle.s38_rules.specs.Headers.{row_in};
-ghost use Rattle.s38_rules.specs.Held.{context_in, moved, object, renamed};
-ghost use Rattle.s38_rules.specs.Kept.{kept_row};
-ghost use Rattle.s38_rules.specs.Parts.{set_profile};
-ghost use Rattle.s38_rules.specs.Standing.{granted, open_to_all, owned_by, restand};
+ghost use Rattle.s38_rules.specs.state.Headers.{rights_in_row};
+ghost use Rattle.s38_rules.specs.state.Held.{context_in, moved, object, renamed};
+ghost use Rattle.s38_rules.specs.state.Kept.{kept_row};
+ghost use Rattle.s38_rules.specs.state.PartsAt.{set_profile};
+ghost use Rattle.s38_rules.specs.state.Access.{granted, on_access, open_to_all, owned_by};
 
 use crate::users::{pay_less, take_row};
 use s38_base::{Id, NoMemory, ObjNum, Rights, Special, UserNum};
@@ -26,8 +26,8 @@ fn set_both(
     user: UserNum,
     rights: Rights,
 ) -> Result<(), NoMemory>
-    requires { row_at profiles.old.rows (row_key user.0 number.0) ≡ kept_row (row_in (object objects.old number.0) user.0) }
-    ensures ok { OnOk result (objects.new ≡ restand objects.old number.0 (granted user rights)) }
+    requires { row_at profiles.old.rows (row_key user.0 number.0) ≡ kept_row (rights_in_row (object objects.old number.0) user.0) }
+    ensures ok { OnOk result (objects.new ≡ on_access objects.old number.0 (granted user rights)) }
     ensures rows { OnOk result (SetsRow profiles.old.rows (row_key user.0 number.0) (row_with rights) profiles.new.rows) }
     ensures users { profiles.new.users ≡ profiles.old.users }
     ensures err { OnErr result (objects.new ≡ objects.old) }
@@ -53,7 +53,7 @@ pub fn set_row(
     user: UserNum,
     rights: Rights,
 ) -> Result<(), NoMemory>
-    ensures ok { OnOk result (world.new ≡ record world.old { held = restand world.old.held number.0 (granted user rights) }) }
+    ensures ok { OnOk result (world.new ≡ record world.old { held = on_access world.old.held number.0 (granted user rights) }) }
     ensures err { OnErr result (world.new ≡ world.old) }
 {
     let Some(object) = world.objects.get(number) else {
@@ -73,7 +73,7 @@ pub fn set_row(
 /// Everybody has these rights on an object.
 #[tactic(auto, using(crate::proofs::KeptLaws::public_kept))]
 pub fn set_public(world: &mut Core<Objects, Profiles>, number: ObjNum, rights: Rights)
-    ensures { world.new ≡ record world.old { held = restand world.old.held number.0 (open_to_all rights) } }
+    ensures { world.new ≡ record world.old { held = on_access world.old.held number.0 (open_to_all rights) } }
 {
     world.objects.set_public(number, rights);
 }
@@ -86,7 +86,7 @@ pub fn give_to(
     user: UserNum,
 ) -> Result<(), NoMemory>
     requires { taker_rule world.old.held number.0 user.0 (object world.old.held number.0) ≡ None }
-    ensures ok { OnOk result (world.new ≡ record world.old { held = restand world.old.held number.0 (λ s. owned_by user (granted user (record { 0 = 255 }) s)) }) }
+    ensures ok { OnOk result (world.new ≡ record world.old { held = on_access world.old.held number.0 (λ s. owned_by user (granted user (record { 0 = 255 }) s)) }) }
     ensures err { OnErr result (world.new ≡ world.old) }
 {
     let Some(object) = world.objects.get(number) else {

@@ -2,10 +2,10 @@
 ghost use Rattle.std.specs.Prelude.{◌≡◌, ◌+◌, ◌-◌, ◌<◌, ◌≤◌, ◌^◌, ◌==◌, ℕ, IsSome, None, OnErr, OnOk, Some, if◌then◌else◌};
 ghost use Rattle.s38_profiles.specs.Rows.{SetsRow, row_at, row_key};
 ghost use Rattle.s38_profiles.specs.Users.{SetsUser, charge_in, user_at};
-ghost use Rattle.s38_rules.specs.Held.{pages_of};
-ghost use Rattle.s38_rules.specs.Keeping.{paid};
-ghost use Rattle.s38_rules.specs.Kept.{kept_row, profile_by};
-ghost use Rattle.s38_rules.specs.PrivateRows.{AreRows, row_of};
+ghost use Rattle.s38_rules.specs.state.Held.{pages_of};
+ghost use Rattle.s38_rules.specs.state.Keeping.{paid};
+ghost use Rattle.s38_rules.specs.state.Kept.{kept_row, profile_by};
+ghost use Rattle.s38_rules.specs.state.PrivateRows.{AreRows, row_of};
 
 use s38_base::{NoMemory, ObjNum, Rights, UserNum};
 use s38_objects::{enter, pages, pay, pay_more};

@@ -1,4 +1,4 @@
--- Lines that stand in one text: one more, and the parts of all.
+-- Lines that lie in one text: one more, and the parts of all.
 use Rattle.std.proofs.Common.{◌≡◌, ◌≤◌, ◌+◌, ℕ, List, [], ◌∷◌, ◌++◌, take, drop, length, sum, suc, zero, Bor, Option, Some, None, refl, sym, ◌∙◌, ap, arith}
 use Rattle.std.proofs.lemmas.List.{drop-append-le, drop-drop, drop-take, length-drop, length-take-le, nil_from_length, take-append-le, take-take, take_all}
 use Rattle.std.proofs.lemmas.List.Sums.{sum_by-cons, sum_by-take-drop, sum_by-take-le}
@@ -13,7 +13,7 @@ pub lines_count : (text sizes : List ℕ) → length (lines_of text sizes) ≡ l
 lines_count text [] = refl
 lines_count text (size ∷ sizes) = ap suc (lines_count (drop size text) sizes)
 
--- what is left behind the first line
+-- what is left after the first line
 rest_size : (n : ℕ) (ns text : List ℕ) → sum (n ∷ ns) ≡ length text → sum ns ≡ length (drop n text)
 rest_size n ns text all = omega (arith, sum-cons n ns, length-drop n text)
 
@@ -64,10 +64,10 @@ get_behind zero lines = refl
 get_behind (suc at) [] = refl
 get_behind (suc at) (line ∷ lines) = get_behind at lines
 
--- the first of the lines behind so many
-pub first_behind : (lines : List (List ℕ)) (at : ℕ) (behind more : List (List ℕ)) (got : Option (Bor (List ℕ))) → behind ≡ drop at lines →
+-- the first of the lines after so many
+pub first_after : (lines : List (List ℕ)) (at : ℕ) (behind more : List (List ℕ)) (got : Option (Bor (List ℕ))) → behind ≡ drop at lines →
     MatchOption got ((behind ≡ []) × (more ≡ [])) (λ line. behind ≡ line.now ∷ more) → option_map (λ line. line.now) got ≡ slice_get lines at
-first_behind lines at behind more None back none =
+first_after lines at behind more None back none =
     sym (ap (λ l. slice_get l 0) none.0) ∙ ap (λ l. slice_get l 0) back ∙ get_behind at lines
-first_behind lines at behind more (Some line) back one =
+first_after lines at behind more (Some line) back one =
     sym (ap (λ l. slice_get l 0) one) ∙ ap (λ l. slice_get l 0) back ∙ get_behind at lines

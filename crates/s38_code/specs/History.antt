@@ -5,22 +5,22 @@ use Rattle.s38_code.specs.declared.event.Event.{Event}
 use Rattle.s38_code.specs.declared.reply.Reply.{Reply}
 use Rattle.s38_code.specs.declared.reply.Reply.TheVariants.{MustWait}
 
-abbrev pub is_of : ℕ → Entry → Bool
-is_of process e = e.process == process
+abbrev pub is_of_process : ℕ → Entry → Bool
+is_of_process process e = e.process == process
 
 -- the entries of a process, in order
 abbrev pub entries_of : ℕ → List Entry → List Entry
-entries_of process history = filter (is_of process) history
+entries_of process history = filter (is_of_process process) history
 
 -- how many there are: the number of its next entry, from 0 on
-abbrev pub count_of : ℕ → List Entry → ℕ
-count_of process history = length (entries_of process history)
+abbrev pub entry_count : ℕ → List Entry → ℕ
+entry_count process history = length (entries_of process history)
 
 -- the entry by which a history goes on
 abbrev pub entry_after : List Entry → ℕ → Event → Reply → Entry
-entry_after history process event reply = record { process = process; seq = count_of process history; event = event; reply = reply }
+entry_after history process event reply = record { process = process; seq = entry_count process history; event = event; reply = reply }
 
--- new is old with the entry of this answer behind it; a process that waits already gets no further entry
+-- new is old with the entry of this answer after it; a process that waits already gets no further entry
 abbrev pub IsAnswered : ℕ → Event → Reply → List Entry → List Entry → Type 0
 IsAnswered process event reply old new =
     (new ≡ old ++ entry_after old process event reply ∷ []) ⊎ ((reply ≡ MustWait) × (new ≡ old))

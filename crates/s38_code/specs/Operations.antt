@@ -107,7 +107,7 @@ mnemonic Desjs = codes "DESJS"
 mnemonic Desjp = codes "DESJP"
 mnemonic Descb = codes "DESCB"
 
--- ---- what stands at each place
+-- ---- what is at each place
 
 -- a pointer to the new object, its context, its identification and its public rights begin most rows that create
 abbrev pub creating : List Class → List Class
@@ -245,7 +245,7 @@ made_kind Crtjp = Some kinds.Port
 made_kind Crtcb = Some kinds.Block
 made_kind _ = None
 
--- ---- whether (R) may stand behind the mnemonic
+-- ---- whether (R) may follow the mnemonic
 
 unfoldable pub may_round : Op → Bool
 may_round Addn = true

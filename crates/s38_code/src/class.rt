@@ -1,4 +1,4 @@
-/// What may stand at an operand's place.
+/// What may be at an operand's place.
 #[derive(Clone, Copy, PartialEq, Eq, Debug)]
 pub enum Class {
     /// A number that is read: an item or a literal.
@@ -29,7 +29,7 @@ pub enum Class {
     UserOrPublic,
     /// A declared description of exceptions.
     Handler,
-    /// An item that is passed on. Arguments stand at the end of a row, and may be fewer than it has.
+    /// An item that is passed on. Arguments are at the end of a row, and may be fewer than it has.
     Argument,
     /// What is written out in the program.
     Constant(Constant),

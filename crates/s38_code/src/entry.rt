@@ -6,7 +6,7 @@ use crate::reply::Reply;
 pub struct Entry {
     /// The job's number, from 1 on.
     pub process: u32,
-    /// How many entries of this process stand before it.
+    /// How many entries of this process come before it.
     pub seq: u64,
     pub event: Event,
     pub reply: Reply,

@@ -1,5 +1,5 @@
 //! What passes between a process and the machine: operands, requests, events, replies and entries of the
-//! history; and what stands before a run: programs, templates and decks, and the table of mnemonics.
+//! history; and what is there before a run: programs, templates and decks, and the table of mnemonics.
 #![tactic(auto)]
 
 mod asked;

@@ -82,7 +82,7 @@ impl TextLines {
     }
 }
 
-/// Lines that stand behind one another in one piece of memory, from the first on. Contracts see it as the list of
+/// Lines that lie one after another in one piece of memory, from the first on. Contracts see it as the list of
 /// the lines.
 #[derive(Drop, Debug)]
 pub struct Lines<'a> {

@@ -114,7 +114,7 @@ pub fn mnemonic(op: Op) -> &'static [u8]
     }
 }
 
-/// What stands at each place of an instruction, in order.
+/// What is at each place of an instruction, in order.
 #[tactic(auto, unfolding(crate::specs::Operations::classes))]
 pub fn classes(op: Op) -> &'static [Class]
     ensures { result.now ≡ classes op }
@@ -398,7 +398,7 @@ pub fn made_kind(op: Op) -> Option<Kind>
     }
 }
 
-/// Whether `(R)` may stand behind the mnemonic.
+/// Whether `(R)` may follow the mnemonic.
 #[tactic(auto, unfolding(crate::specs::Operations::may_round))]
 #[inline(always)]
 pub fn may_round(op: Op) -> bool

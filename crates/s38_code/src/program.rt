@@ -37,14 +37,14 @@ pub struct Instruction {
 /// Instructions, in order.
 pub type Instructions = Seq<Instruction>;
 
-/// What a declared name stands for.
+/// What a declared name means.
 #[derive(Drop, Debug)]
 pub enum Form {
     /// A variable of the invocation, and its first bytes.
     Local { attr: Attr, first: Bytes },
     /// The variable that the caller passes at place k.
     Parm { k: u8, attr: Attr },
-    /// An item in a space, behind the pointer in another item.
+    /// An item in a space, at an offset from the pointer in another item.
     Based { base: u16, offset: u32, attr: Attr },
     /// A description of an exception (None: of each), and where it goes on.
     Handler { code: Option<u16>, at: u32 },

@@ -17,7 +17,7 @@ pub enum OperandRule {
     TwoLocalBytes,
     /// The first operand is a binary number of two bytes.
     ShortBinary,
-    /// The operands behind the first are parameters.
+    /// The operands after the first are parameters.
     Parameters,
     /// Length of key 0, or 1 to 120 for KEYED; longest message 1 to 4,096.
     QueueLengths,

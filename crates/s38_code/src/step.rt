@@ -5,7 +5,7 @@ ghost use Rattle.s38_code.specs.declared.entry.Entry.{Entry};
 ghost use Rattle.s38_code.specs.declared.event.Event.{Event};
 ghost use Rattle.s38_code.specs.declared.reply.Reply.{Reply};
 ghost use Rattle.s38_code.specs.declared.step.StepFault.{StepFault};
-ghost use Rattle.s38_code.specs.History.{entries_of, IsAnswered, first_stop};
+ghost use Rattle.s38_code.specs.History.{IsAnswered, entries_of, first_stop};
 
 use crate::asked::Asked;
 use crate::event::Event;
@@ -37,7 +37,7 @@ pub trait Stepper {
 
     ghost is_sound: { Self → Type 0 };
 
-    /// Whether an answer, and the state behind it, are those of one step of its own.
+    /// Whether an answer, and the state after it, are those of one step of its own.
     ghost steps: { Self → ℕ → Event → Result Reply StepFault → Self → Type 0 };
 
     /// Whether a process may ask this now: a fact of the origin, the event and that process's own entries.

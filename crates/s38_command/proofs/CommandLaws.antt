@@ -5,7 +5,7 @@ use Rattle.std.proofs.lemmas.Bool.{and_parts, leb-true}
 use Rattle.std.proofs.lemmas.Option.{cond_some}
 use Rattle.std.proofs.lemmas.Bool.Decides.{nat_tests}
 use Rattle.std.specs.Option.{option_map}
-use Rattle.s38_words.specs.Number.{held}
+use Rattle.s38_words.specs.Number.{capped}
 use Rattle.s38_words.specs.Number.{natural_of}
 use Rattle.std.specs.Str.{bytes_eq}
 use Rattle.s38_command.specs.declared.command.Command.{Command}
@@ -13,9 +13,9 @@ use Rattle.s38_command.specs.declared.command.Command.TheVariants.{Jobs, Check, 
 use Rattle.s38_command.specs.declared.turns.Turns.{Turns}
 use Rattle.s38_command.specs.declared.turns.Turns.TheVariants.{Serial, Workers}
 use Rattle.s38_command.specs.Said.{WordsSaid, said_of}
-use Rattle.s38_command.specs.Commands.{AreTurnsOn, alone, asks_threads, bare_by, command_from, command_in, command_of, command_on, demo_by, demo_of, greatest_pick, most_postings, most_workers, pick_of, run_by, same_side, serial_by, served_by, takes_threads, workers_of}
+use Rattle.s38_command.specs.Commands.{AreTurnsOn, asks_threads, bare_by, command_from, command_in, command_of, command_on, demo_by, demo_of, greatest_pick, most_postings, most_workers, pick_of, run_by, same_side, serial_by, served_by, takes_threads, without_others, workers_of}
 
-pub pick_held : (o : Option ℕ) → pick_of (option_map (held (2 ^ 64 - 1)) o) ≡ pick_of o
+pub pick_held : (o : Option ℕ) → pick_of (option_map (capped (2 ^ 64 - 1)) o) ≡ pick_of o
 pick_held None = refl
 pick_held (Some n) = by_size (nat_le n greatest_pick) refl
   where
@@ -27,7 +27,7 @@ pick_held (Some n) = by_size (nat_le n greatest_pick) refl
         let large : nat_le (min n (2 ^ 64 - 1)) greatest_pick ≡ false = grind (arith, nat_tests) in
         rw large (rw h refl)
 
-pub size_held : (o : Option ℕ) → demo_of (option_map (held (2 ^ 64 - 1)) o) ≡ demo_of o
+pub size_held : (o : Option ℕ) → demo_of (option_map (capped (2 ^ 64 - 1)) o) ≡ demo_of o
 size_held None = refl
 size_held (Some n) = by_size (nat_le n most_postings) refl
   where
@@ -39,7 +39,7 @@ size_held (Some n) = by_size (nat_le n most_postings) refl
         let large : nat_le (min n (2 ^ 64 - 1)) most_postings ≡ false = grind (arith, nat_tests) in
         rw large (rw h refl)
 
-pub workers_held : (o : Option ℕ) → workers_of (option_map (held (2 ^ 64 - 1)) o) ≡ workers_of o
+pub workers_held : (o : Option ℕ) → workers_of (option_map (capped (2 ^ 64 - 1)) o) ≡ workers_of o
 workers_held None = refl
 workers_held (Some n) = by_size (nat_le n most_workers) refl
   where
@@ -81,8 +81,8 @@ bare_not false true c n h = cc
 bare_not false false true n h = cc
 bare_not false false false n h = cc
 
--- a command that stands alone is the command
-stands : (a b : Option (List ℕ)) (o : Option Command) (c : Command) → alone a b o ≡ Some c → o ≡ Some c
+-- a command of a single word is the command
+stands : (a b : Option (List ℕ)) (o : Option Command) (c : Command) → without_others a b o ≡ Some c → o ≡ Some c
 stands None None o c h = h
 stands None (Some word) o c h = cc
 stands (Some word) b o c h = cc
@@ -103,15 +103,15 @@ demo_size None n h = cc
 demo_size (Some number) n h = by_size (natural_of number) n h
 
 word_size : (a b c : Bool) (word : List ℕ) (said : WordsSaid) (n : ℕ)
-    → cond a (alone said.rest said.workers (serial_by said.pick)) (cond b (alone said.rest said.pick (run_by said.workers))
-    (cond c (alone said.pick said.workers (demo_by said.rest)) (alone said.rest said.pick (alone said.workers None (bare_by word))))) ≡ Some (Demo n)
+    → cond a (without_others said.rest said.workers (serial_by said.pick)) (cond b (without_others said.rest said.pick (run_by said.workers))
+    (cond c (without_others said.pick said.workers (demo_by said.rest)) (without_others said.rest said.pick (without_others said.workers None (bare_by word))))) ≡ Some (Demo n)
     → (1 ≤ n) × (n ≤ 200)
 word_size true b c word said n h = absurd (serial_not said.pick n (stands said.rest said.workers (serial_by said.pick) (Demo n) h))
 word_size false true c word said n h = absurd (run_not said.workers n (stands said.rest said.pick (run_by said.workers) (Demo n) h))
 word_size false false true word said n h = demo_size said.rest n (stands said.pick said.workers (demo_by said.rest) (Demo n) h)
 word_size false false false word said n h =
     absurd (bare_not (bytes_eq word (codes "check")) (bytes_eq word (codes "install")) (bytes_eq word (codes "list")) n
-    (stands said.workers None (bare_by word) (Demo n) (stands said.rest said.pick (alone said.workers None (bare_by word)) (Demo n) h)))
+    (stands said.workers None (bare_by word) (Demo n) (stands said.rest said.pick (without_others said.workers None (bare_by word)) (Demo n) h)))
 
 pub demo_in_range : (words : List (List ℕ)) (n : ℕ) → command_of words ≡ Some (Demo n) → (1 ≤ n) × (n ≤ 200)
 demo_in_range words n h = by (said_of words) h
@@ -186,15 +186,15 @@ no_bare false false true n h = cc
 no_bare false false false n h = cc
 
 some_by_word : (a b c : Bool) (word : List ℕ) (said : WordsSaid) (n : ℕ)
-    → cond a (alone said.rest said.workers (serial_by said.pick)) (cond b (alone said.rest said.pick (run_by said.workers))
-    (cond c (alone said.pick said.workers (demo_by said.rest)) (alone said.rest said.pick (alone said.workers None (bare_by word))))) ≡ Some (Jobs (Workers n))
+    → cond a (without_others said.rest said.workers (serial_by said.pick)) (cond b (without_others said.rest said.pick (run_by said.workers))
+    (cond c (without_others said.pick said.workers (demo_by said.rest)) (without_others said.rest said.pick (without_others said.workers None (bare_by word))))) ≡ Some (Jobs (Workers n))
     → 1 ≤ n
 some_by_word true b c word said n h = absurd (no_serial said.pick n (stands said.rest said.workers (serial_by said.pick) (Jobs (Workers n)) h))
 some_by_word false true c word said n h = some_run said.workers n (stands said.rest said.pick (run_by said.workers) (Jobs (Workers n)) h)
 some_by_word false false true word said n h = absurd (no_demo_by said.rest n (stands said.pick said.workers (demo_by said.rest) (Jobs (Workers n)) h))
 some_by_word false false false word said n h =
     absurd (no_bare (bytes_eq word (codes "check")) (bytes_eq word (codes "install")) (bytes_eq word (codes "list")) n
-    (stands said.workers None (bare_by word) (Jobs (Workers n)) (stands said.rest said.pick (alone said.workers None (bare_by word)) (Jobs (Workers n)) h)))
+    (stands said.workers None (bare_by word) (Jobs (Workers n)) (stands said.rest said.pick (without_others said.workers None (bare_by word)) (Jobs (Workers n)) h)))
 
 some_asked : (words : List (List ℕ)) (n : ℕ) → command_of words ≡ Some (Jobs (Workers n)) → 1 ≤ n
 some_asked words n h = by (said_of words) h
@@ -206,9 +206,6 @@ some_asked words n h = by (said_of words) h
     by : (o : Option WordsSaid) → command_in o ≡ Some (Jobs (Workers n)) → 1 ≤ n
     by None e = cc
     by (Some said) e = from said said.command e
-
-jobs_same : (a b : Turns) → Some (Jobs a) ≡ Some (Jobs b) → Jobs a ≡ Jobs b
-jobs_same a b h = cc
 
 -- a command of jobs that is on the side of a call has its turns
 pub turns_on : (threads : Bool) (words : List (List ℕ)) (turns : Turns) → command_on threads words ≡ Some (Jobs turns) → AreTurnsOn threads turns

@@ -18,7 +18,7 @@ usual_workers = 4
 abbrev pub most_workers : ℕ
 most_workers = 64
 
--- a word that stands alone
+-- a single word
 abbrev pub bare_by : List ℕ → Option Command
 bare_by word =
     if bytes_eq word (codes "check") then Some Check
@@ -57,18 +57,18 @@ demo_by None = None
 demo_by (Some number) = demo_of (natural_of number)
 
 -- where the others are missing
-abbrev pub alone : Option (List ℕ) → Option (List ℕ) → Option Command → Option Command
-alone None None command = command
-alone None (Some word) command = None
-alone (Some word) other command = None
+abbrev pub without_others : Option (List ℕ) → Option (List ℕ) → Option Command → Option Command
+without_others None None command = command
+without_others None (Some word) command = None
+without_others (Some word) other command = None
 
 -- `serial` has a pick or none, `run` a number of workers or none, `demo` one further word, and the others have nothing more
 abbrev pub command_by : List ℕ → WordsSaid → Option Command
 command_by word said =
-    if bytes_eq word (codes "serial") then alone said.rest said.workers (serial_by said.pick)
-    else (if bytes_eq word (codes "run") then alone said.rest said.pick (run_by said.workers)
-    else (if bytes_eq word (codes "demo") then alone said.pick said.workers (demo_by said.rest)
-    else alone said.rest said.pick (alone said.workers None (bare_by word))))
+    if bytes_eq word (codes "serial") then without_others said.rest said.workers (serial_by said.pick)
+    else (if bytes_eq word (codes "run") then without_others said.rest said.pick (run_by said.workers)
+    else (if bytes_eq word (codes "demo") then without_others said.pick said.workers (demo_by said.rest)
+    else without_others said.rest said.pick (without_others said.workers None (bare_by word))))
 
 abbrev pub command_from : WordsSaid → Option (List ℕ) → Option Command
 command_from said None = None
@@ -90,14 +90,6 @@ reads_deck Check = true
 reads_deck (Demo size) = false
 reads_deck Install = false
 reads_deck Listing = false
-
--- the command is about a deck: one that it reads, or one that it makes
-abbrev pub has_deck : Command → Bool
-has_deck (Jobs turns) = true
-has_deck Check = true
-has_deck (Demo size) = true
-has_deck Install = false
-has_deck Listing = false
 
 -- ---- threads
 

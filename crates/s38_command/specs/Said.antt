@@ -1,5 +1,5 @@
 -- What the words of a command line say: what a simple command makes of them that has two positionals, `command` and `rest`,
--- and two options, `--pick` and `--workers`, each with one value. An option's value may follow `=`, options may stand
+-- and two options, `--pick` and `--workers`, each with one value. An option's value may follow `=`, options may be
 -- anywhere, and `--` ends them.
 use Rattle.std.specs.Prelude.{ℕ, true, List, [], ◌∷◌, Option, Some, None, codes}
 use Rattle.clap.specs.Faults.{fault_of}

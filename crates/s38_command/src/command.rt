@@ -2,7 +2,7 @@ ghost use Rattle.std.specs.Prelude.{◌≡◌, ◌≤◌, ℕ, IfOk, map, Some};
 ghost use Rattle.std.specs.Option.{option_map};
 ghost use Rattle.s38_words.specs.Number.{natural_of};
 ghost use Rattle.s38_command.specs.declared.turns.Turns.{Turns};
-ghost use Rattle.s38_command.specs.Commands.{AreTurnsOn, alone, asks_threads, bare_by, command_by, command_in, command_of, command_on, demo_by, demo_of, pick_of, run_by, same_side, serial_by, served_by, takes_threads, workers_of};
+ghost use Rattle.s38_command.specs.Commands.{AreTurnsOn, asks_threads, bare_by, command_by, command_in, command_of, command_on, demo_by, demo_of, pick_of, run_by, same_side, serial_by, served_by, takes_threads, without_others, workers_of};
 
 use crate::said::{Said, said_of};
 use crate::turns::Turns;
@@ -46,7 +46,7 @@ fn on_workers(count: u32) -> Command
     }
 }
 
-/// The command of a word that stands alone.
+/// The command of a single word.
 fn bare_by(word: &[u8]) -> Option<Command>
     ensures { result ≡ bare_by word.now }
 {
@@ -141,7 +141,7 @@ fn demo_by(size: Option<&str>) -> Option<Command>
 
 /// A command where these are missing; none where one of them is there.
 fn alone(one: Option<&str>, other: Option<&str>, command: Option<Command>) -> Option<Command>
-    ensures { result ≡ alone (option_map (λ w. w.now) one.entry) (option_map (λ w. w.now) other.entry) command }
+    ensures { result ≡ without_others (option_map (λ w. w.now) one.entry) (option_map (λ w. w.now) other.entry) command }
 {
     match (one, other) {
         (None, None) => command,

@@ -1,25 +1,27 @@
 -- What making journal spaces, ports and commit blocks has met, entries that are not there, and what is kept of users.
-use Rattle.s38_rules.specs.Changes.{through_port}
+use Rattle.s38_rules.specs.families.Changes.{through_port}
 use Rattle.std.proofs.Common.{◌≡◌, ℕ, zero, suc, ◌<◌, ◌≤◌, List, [], ◌∷◌, ap, arith, length, not, refl, sym}
 use Rattle.std.specs.Prelude.{Option, Some, None, is_some, option_map, slice_get}
 use Rattle.s38_base.specs.declared.exception.Exception.{Exception}
 use Rattle.s38_base.specs.Exceptions as exceptions
 use Rattle.s38_base.specs.Signals.{fails, first}
 use Rattle.s38_code.specs.declared.operand.Operand.{Operand}
-use Rattle.s38_journals.specs.Entries.{Entry, entry_image}
-use Rattle.s38_journals.specs.Journals.{bytes_at}
+use Rattle.s38_journals.specs.Entries.{JournalRecord, entry_image}
+use Rattle.s38_journals.specs.Journals.{entry_bytes_at}
 use Rattle.s38_profiles.specs.ProfileMaps.{ProfileMaps}
 use Rattle.s38_changes.proofs.KeptLaws.{left}
 use Rattle.s38_units.proofs.KeptLaws.{data_kept}
-use Rattle.s38_rules.specs.Creation.{creation_fails}
-use Rattle.s38_rules.specs.Held.{Held, ensured, kept_on_disk}
-use Rattle.s38_rules.specs.Journals.{crtcb_fails, created_block, created_journal, created_port, crtjp_fails, crtjs_fails, is_attached, is_port_on_disk, jrnlobj_fails}
-use Rattle.s38_rules.specs.Journaling.{journal_for}
-use Rattle.s38_rules.specs.Kept.{Mirrors}
-use Rattle.s38_rules.specs.Operands.{target}
-use Rattle.s38_rules.specs.Parts.{on_data}
-use Rattle.s38_rules.specs.State.{State}
-use Rattle.s38_rules.specs.Users.{user_of}
+use Rattle.s38_rules.specs.families.Creation.{creation_fails}
+use Rattle.s38_rules.specs.state.Held.{Held, ensured, kept_on_disk}
+use Rattle.s38_rules.specs.families.Journals.{created_journal, crtjs_fails}
+use Rattle.s38_rules.specs.families.CommitBlocks.{crtcb_fails, created_block}
+use Rattle.s38_rules.specs.families.Ports.{created_port, crtjp_fails, is_attached, is_port_on_disk, jrnlobj_fails}
+use Rattle.s38_rules.specs.state.Journaling.{journal_for}
+use Rattle.s38_rules.specs.state.Kept.{Mirrors}
+use Rattle.s38_rules.specs.ask.Operands.{target}
+use Rattle.s38_rules.specs.state.PartsAt.{on_data}
+use Rattle.s38_rules.specs.state.State.{State}
+use Rattle.s38_rules.specs.ask.Users.{user_of}
 
 -- ---- creation
 
@@ -41,19 +43,19 @@ crtcb_created s p ops h = (None, h)
 -- ---- entries
 
 -- a journal without an entry has no bytes of one
-pub no_bytes : (sequence : ℕ) → bytes_at [] sequence ≡ None
+pub no_bytes : (sequence : ℕ) → entry_bytes_at [] sequence ≡ None
 no_bytes zero = refl
 no_bytes (suc k) = refl
 
-none_there : (entries : List Entry) (k : ℕ) → length entries ≤ k → slice_get entries k ≡ None
+none_there : (entries : List JournalRecord) (k : ℕ) → length entries ≤ k → slice_get entries k ≡ None
 none_there [] k far = refl
 none_there (e ∷ entries) zero far = absurd (omega (arith, far))
 none_there (e ∷ entries) (suc k) far = none_there entries k (omega (arith, far))
 
--- behind the last sequence there is none
-pub none_behind : (entries : List Entry) (sequence : ℕ) → length entries < sequence → bytes_at entries sequence ≡ None
-none_behind entries zero far = refl
-none_behind entries (suc k) far = ap (option_map (entry_image (suc k))) (none_there entries k (omega (arith, far)))
+-- after the last sequence there is none
+pub none_after : (entries : List JournalRecord) (sequence : ℕ) → length entries < sequence → entry_bytes_at entries sequence ≡ None
+none_after entries zero far = refl
+none_after entries (suc k) far = ap (option_map (entry_image (suc k))) (none_there entries k (omega (arith, far)))
 
 -- ---- the rules of journaling, one after another
 

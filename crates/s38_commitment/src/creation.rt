@@ -1,7 +1,9 @@
 //! Journal spaces, ports and commit blocks are made.
-ghost use Rattle.s38_rules.specs.Changes.{done};
+ghost use Rattle.s38_rules.specs.families.Changes.{done};
 ghost use Rattle.std.specs.Prelude.{◌≡◌, ◌≤◌, None, OnErr, OnOk, length};
-ghost use Rattle.s38_rules.specs.Journals.{crtcb_changes, crtcb_fails, crtcb_needs, created_block, created_journal, created_port, crtjp_changes, crtjp_fails, crtjp_needs, crtjs_changes, crtjs_fails, new_block, new_port};
+ghost use Rattle.s38_rules.specs.families.Journals.{created_journal, crtjs_changes, crtjs_fails};
+ghost use Rattle.s38_rules.specs.families.CommitBlocks.{crtcb_changes, crtcb_fails, crtcb_needs, created_block, new_block};
+ghost use Rattle.s38_rules.specs.families.Ports.{created_port, crtjp_changes, crtjp_fails, crtjp_needs, new_port};
 
 use crate::objects::is_attached;
 use s38_base::exceptions::OBJECT_IN_USE;
@@ -23,7 +25,7 @@ pub fn created_journal(objects: &Objects, operands: &[Operand]) -> Creating
     in_context(Kind::Journal, 1, objects, operands)
 }
 
-#[tactic(auto, unfolding(s38_rules::specs::Journals::crtjs_fails))]
+#[tactic(auto, unfolding(s38_rules::specs::families::Journals::crtjs_fails))]
 pub fn crtjs_fails(
     world: &Core<Objects, Profiles>,
     process: u32,
@@ -62,7 +64,7 @@ pub fn created_port(objects: &Objects, operands: &[Operand]) -> Creating
 }
 
 /// INSERT on the context, and on the journal space.
-#[tactic(auto, unfolding(s38_rules::specs::Journals::crtjp_needs, s38_rules::specs::Creation::creation_needs))]
+#[tactic(auto, unfolding(s38_rules::specs::families::Ports::crtjp_needs, s38_rules::specs::families::Creation::creation_needs))]
 pub fn crtjp_needs(operands: &[Operand]) -> Needs
     ensures { result ≡ crtjp_needs operands.now }
 {
@@ -71,7 +73,7 @@ pub fn crtjp_needs(operands: &[Operand]) -> Needs
 }
 
 /// No port leads to the journal space yet.
-#[tactic(auto, unfolding(s38_rules::specs::Journals::crtjp_fails))]
+#[tactic(auto, unfolding(s38_rules::specs::families::Ports::crtjp_fails))]
 pub fn crtjp_fails(
     world: &Core<Objects, Profiles>,
     process: u32,
@@ -121,7 +123,7 @@ pub fn created_block(objects: &Objects, operands: &[Operand]) -> Creating
 }
 
 /// INSERT on the context, and on the port.
-#[tactic(auto, unfolding(s38_rules::specs::Journals::crtcb_needs, s38_rules::specs::Creation::creation_needs))]
+#[tactic(auto, unfolding(s38_rules::specs::families::CommitBlocks::crtcb_needs, s38_rules::specs::families::Creation::creation_needs))]
 pub fn crtcb_needs(operands: &[Operand]) -> Needs
     ensures { result ≡ crtcb_needs operands.now }
 {
@@ -129,7 +131,7 @@ pub fn crtcb_needs(operands: &[Operand]) -> Needs
     creation_needs(operands).and(port)
 }
 
-#[tactic(auto, unfolding(s38_rules::specs::Journals::crtcb_fails))]
+#[tactic(auto, unfolding(s38_rules::specs::families::CommitBlocks::crtcb_fails))]
 pub fn crtcb_fails(
     world: &Core<Objects, Profiles>,
     process: u32,

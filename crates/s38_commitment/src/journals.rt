@@ -1,9 +1,9 @@
 //! The family of journals and units: journal spaces, ports and commit blocks made and destroyed; data spaces journaled;
 //! entries of a journal read; units committed and taken back; objects ensured.
-ghost use Rattle.s38_rules.specs.State.{State};
-ghost use Rattle.s38_rules.specs.Changes.{done};
+ghost use Rattle.s38_rules.specs.state.State.{State};
+ghost use Rattle.s38_rules.specs.families.Changes.{done};
 ghost use Rattle.std.specs.Prelude.{◌≡◌, None, IfOk, OnErr, OnOk};
-ghost use Rattle.s38_rules.specs.Journals.{ensobj_needs, journals_row, retjent_needs};
+ghost use Rattle.s38_rules.specs.families.Journals.{ensobj_needs, journals_row, retjent_needs};
 
 use crate::creation::{
     created_block, created_journal, created_port, crtcb, crtcb_fails, crtcb_needs, crtjp,
@@ -24,7 +24,7 @@ use s38_rules::Sought;
 use std::alloc::Global;
 
 /// RETRIEVE on the journal space.
-#[tactic(auto, unfolding(s38_rules::specs::Journals::retjent_needs))]
+#[tactic(auto, unfolding(s38_rules::specs::families::Journals::retjent_needs))]
 fn retjent_needs() -> Needs
     ensures { result ≡ retjent_needs }
 {
@@ -33,7 +33,7 @@ fn retjent_needs() -> Needs
 }
 
 /// RETRIEVE on an object of any kind.
-#[tactic(auto, unfolding(s38_rules::specs::Journals::ensobj_needs))]
+#[tactic(auto, unfolding(s38_rules::specs::families::Journals::ensobj_needs))]
 fn ensobj_needs() -> Needs
     ensures { result ≡ ensobj_needs }
 {
@@ -41,7 +41,7 @@ fn ensobj_needs() -> Needs
 }
 
 /// What an instruction of journals and units needs.
-#[tactic(auto, unfolding(s38_rules::specs::Journals::journals_row))]
+#[tactic(auto, unfolding(s38_rules::specs::families::Journals::journals_row))]
 pub fn needs(act: Act<'_>) -> Needs
     ensures { (s : State) → result ≡ (journals_row act.entry.request.now.op).needs s act.entry.process act.entry.depth act.entry.request.now }
 {
@@ -62,7 +62,7 @@ pub fn needs(act: Act<'_>) -> Needs
 }
 
 /// The first of its conditions and limits that fails.
-#[tactic(auto, unfolding(s38_rules::specs::Journals::journals_row))]
+#[tactic(auto, unfolding(s38_rules::specs::families::Journals::journals_row))]
 pub fn conditions(world: &Core<Objects, Profiles>, act: Act<'_>) -> Option<Exception>
     ensures { result ≡ (journals_row act.entry.request.now.op).fails world.now act.entry.process act.entry.depth act.entry.request.now }
 {
@@ -83,7 +83,7 @@ pub fn conditions(world: &Core<Objects, Profiles>, act: Act<'_>) -> Option<Excep
 }
 
 /// The value for its receiver.
-#[tactic(auto, unfolding(s38_rules::specs::Journals::journals_row))]
+#[tactic(auto, unfolding(s38_rules::specs::families::Journals::journals_row))]
 pub fn value(
     alloc: Global,
     world: &Core<Objects, Profiles>,
@@ -103,7 +103,7 @@ pub fn value(
 }
 
 /// What it changes, where it doesn't fail; where memory is refused nothing changes.
-#[tactic(auto, unfolding(s38_rules::specs::Journals::journals_row))]
+#[tactic(auto, unfolding(s38_rules::specs::families::Journals::journals_row))]
 pub fn apply(
     alloc: Global,
     world: &mut Core<Objects, Profiles>,

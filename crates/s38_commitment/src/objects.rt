@@ -1,12 +1,14 @@
 //! Which ports a journal space has, and which data spaces a port; what destroys, journals and ensures.
-ghost use Rattle.s38_rules.specs.Changes.{through_port};
-ghost use Rattle.s38_rules.specs.Operands.{target};
+ghost use Rattle.s38_rules.specs.families.Changes.{through_port};
+ghost use Rattle.s38_rules.specs.ask.Operands.{target};
 ghost use Rattle.std.specs.Prelude.{◌≡◌, is_some};
 ghost use Rattle.std.specs.Option.{option_copied};
-ghost use Rattle.s38_rules.specs.Held.{disk_in, ensured, is_on_disk};
-ghost use Rattle.s38_rules.specs.Journals.{descb_fails, desjp_fails, desjs_fails, is_attached, is_port_on_disk, is_used, jrnlobj_fails, jrnlobj_needs, leads_to, names_port, port_journal};
-ghost use Rattle.s38_rules.specs.Journaling.{journal_for};
-ghost use Rattle.s38_rules.specs.Parts.{on_data};
+ghost use Rattle.s38_rules.specs.state.Held.{disk_in, ensured, is_on_disk};
+ghost use Rattle.s38_rules.specs.families.Journals.{desjs_fails};
+ghost use Rattle.s38_rules.specs.families.CommitBlocks.{descb_fails};
+ghost use Rattle.s38_rules.specs.families.Ports.{desjp_fails, is_attached, is_port_on_disk, jrnlobj_fails, jrnlobj_needs, leads_to, names_port, port_is_used, port_journal};
+ghost use Rattle.s38_rules.specs.state.Journaling.{journal_for};
+ghost use Rattle.s38_rules.specs.state.PartsAt.{on_data};
 
 use s38_base::exceptions::{OBJECT_IN_USE, OBJECT_NOT_ON_DISK};
 use s38_base::{Category, Exception, Kind, ObjNum, Rights};
@@ -48,7 +50,7 @@ fn names_port(port: ObjNum, object: &Object) -> bool
 
 /// Some data space is journaled to a port.
 fn is_used(objects: &Objects, port: ObjNum) -> bool
-    ensures { result ≡ is_used objects.now port.0 }
+    ensures { result ≡ port_is_used objects.now port.0 }
 {
     objects.all().any(|object| names_port(port, object))
 }
@@ -56,7 +58,7 @@ fn is_used(objects: &Objects, port: ObjNum) -> bool
 // ---- DESJS, DESJP and DESCB
 
 /// No port leads to the journal space.
-#[tactic(auto, unfolding(s38_rules::specs::Journals::desjs_fails))]
+#[tactic(auto, unfolding(s38_rules::specs::families::Journals::desjs_fails))]
 pub fn desjs_fails(objects: &Objects, operands: &[Operand]) -> Option<Exception>
     ensures { result ≡ desjs_fails objects.now operands.now }
 {
@@ -65,7 +67,7 @@ pub fn desjs_fails(objects: &Objects, operands: &[Operand]) -> Option<Exception>
 }
 
 /// No data space is journaled to the port.
-#[tactic(auto, unfolding(s38_rules::specs::Journals::desjp_fails))]
+#[tactic(auto, unfolding(s38_rules::specs::families::Ports::desjp_fails))]
 pub fn desjp_fails(objects: &Objects, operands: &[Operand]) -> Option<Exception>
     ensures { result ≡ desjp_fails objects.now operands.now }
 {
@@ -74,7 +76,7 @@ pub fn desjp_fails(objects: &Objects, operands: &[Operand]) -> Option<Exception>
 }
 
 /// The commit block has no unit.
-#[tactic(auto, unfolding(s38_rules::specs::Journals::descb_fails))]
+#[tactic(auto, unfolding(s38_rules::specs::families::CommitBlocks::descb_fails))]
 pub fn descb_fails(world: &Core<Objects, Profiles>, operands: &[Operand]) -> Option<Exception>
     ensures { result ≡ descb_fails world.now operands.now }
 {
@@ -85,7 +87,7 @@ pub fn descb_fails(world: &Core<Objects, Profiles>, operands: &[Operand]) -> Opt
 // ---- JRNLOBJ
 
 /// OBJMGT on the data space and on the port.
-#[tactic(auto, unfolding(s38_rules::specs::Journals::jrnlobj_needs))]
+#[tactic(auto, unfolding(s38_rules::specs::families::Ports::jrnlobj_needs))]
 pub fn jrnlobj_needs() -> Needs
     ensures { result ≡ jrnlobj_needs }
 {
@@ -139,7 +141,7 @@ fn is_journaled(objects: &Objects, space: ObjNum) -> bool
 }
 
 /// The data space is not journaled yet, and the port and its journal space are on disk.
-#[tactic(auto, unfolding(s38_rules::specs::Journals::jrnlobj_fails))]
+#[tactic(auto, unfolding(s38_rules::specs::families::Ports::jrnlobj_fails))]
 pub fn jrnlobj_fails(objects: &Objects, operands: &[Operand]) -> Option<Exception>
     ensures { result ≡ jrnlobj_fails objects.now operands.now }
 {

@@ -1,9 +1,9 @@
 //! Entries of a journal read by their sequence.
 ghost use Rattle.std.specs.Prelude.{◌≡◌, IfOk};
 ghost use Rattle.std.specs.Option.{option_copied, unwrap_or};
-ghost use Rattle.s38_journals.specs.Journals.{bytes_at};
-ghost use Rattle.s38_rules.specs.Journals.{bytes_or_empty, entry_bytes, retjent_fails, retjent_gives};
-ghost use Rattle.s38_rules.specs.Parts.{no_journal};
+ghost use Rattle.s38_journals.specs.Journals.{entry_bytes_at};
+ghost use Rattle.s38_rules.specs.families.Journals.{bytes_or_empty, entry_bytes, retjent_fails, retjent_gives};
+ghost use Rattle.s38_rules.specs.state.PartsAt.{no_journal};
 
 use s38_base::exceptions::{DECIMAL_DATA, NO_ENTRY};
 use s38_base::{Exception, NoMemory};
@@ -14,9 +14,9 @@ use s38_operands::{fails, fitted, number_at, ordinal_at, room_at, target};
 use std::alloc::Global;
 
 /// The bytes of the entry of a sequence; a number that no sequence reaches has none.
-#[tactic(auto, using(crate::proofs::CommitmentLaws::no_bytes, crate::proofs::CommitmentLaws::none_behind))]
+#[tactic(auto, using(crate::proofs::CommitmentLaws::no_bytes, crate::proofs::CommitmentLaws::none_after))]
 fn entry_in(journal: Option<&Journal>, sequence: u128) -> Option<&[u8]>
-    ensures { option_copied result ≡ bytes_at (unwrap_or (option_copied journal.entry) no_journal).entries sequence }
+    ensures { option_copied result ≡ entry_bytes_at (unwrap_or (option_copied journal.entry) no_journal).entries sequence }
 {
     match journal {
         Some(journal) => {
@@ -38,7 +38,7 @@ fn entry_bytes<'a>(objects: &'a Objects, operands: &[Operand]) -> Option<&'a [u8
 }
 
 /// The number has a value, and there is such an entry.
-#[tactic(auto, unfolding(s38_rules::specs::Journals::retjent_fails))]
+#[tactic(auto, unfolding(s38_rules::specs::families::Journals::retjent_fails))]
 pub fn retjent_fails(objects: &Objects, operands: &[Operand]) -> Option<Exception>
     ensures { result ≡ retjent_fails objects.now operands.now }
 {
@@ -58,7 +58,7 @@ fn bytes_or_empty(entry: Option<&[u8]>) -> &[u8]
 }
 
 /// The entry, cut or filled with zeros.
-#[tactic(auto, unfolding(s38_rules::specs::Journals::retjent_bytes))]
+#[tactic(auto, unfolding(s38_rules::specs::families::Journals::retjent_bytes))]
 pub fn retjent_gives(
     alloc: Global,
     objects: &Objects,

@@ -1,7 +1,7 @@
 //! Units are committed and taken back by their commit blocks.
-ghost use Rattle.s38_rules.specs.Changes.{done};
+ghost use Rattle.s38_rules.specs.families.Changes.{done};
 ghost use Rattle.std.specs.Prelude.{◌≡◌};
-ghost use Rattle.s38_rules.specs.Journals.{commit_changes, decommit_changes, unit_fails, unit_needs};
+ghost use Rattle.s38_rules.specs.families.CommitBlocks.{commit_changes, decommit_changes, unit_fails, unit_needs};
 
 use s38_base::{Category, Exception, Kind, Rights};
 use s38_code::Operand;
@@ -12,7 +12,7 @@ use s38_rules::Sought;
 use s38_units::unit_rule;
 
 /// UPDATE on the commit block.
-#[tactic(auto, unfolding(s38_rules::specs::Journals::unit_needs))]
+#[tactic(auto, unfolding(s38_rules::specs::families::CommitBlocks::unit_needs))]
 pub fn unit_needs() -> Needs
     ensures { result ≡ unit_needs }
 {
@@ -21,7 +21,7 @@ pub fn unit_needs() -> Needs
 }
 
 /// The unit of the commit block, where it has one, is of the process.
-#[tactic(auto, unfolding(s38_rules::specs::Journals::unit_fails))]
+#[tactic(auto, unfolding(s38_rules::specs::families::CommitBlocks::unit_fails))]
 pub fn unit_fails(
     world: &Core<Objects, Profiles>,
     process: u32,

@@ -10,13 +10,13 @@ use Rattle.std.specs.List.{All}
 use Rattle.std.specs.Map.{keys_of, lookup}
 use Rattle.std.specs.BTreeMap.{is_at}
 use Rattle.s38_commits.specs.Unit.{CommitUnit}
-use Rattle.s38_commits.specs.Units.{IsRising, UnitMap, above, unit_of}
+use Rattle.s38_commits.specs.Units.{BlocksRise, UnitMap, above, unit_of}
 use Rattle.s38_commits.proofs.MapLaws.{at_key, nat_itself, nat_same}
 
 over : (a b : ℕ) → nat_cmp a b ≡ Less → nat_lt 0 b ≡ true
 over a b is = grind (arith, nat_tests)
 
--- what stands behind a block lies above 0
+-- what comes after a block lies above 0
 behind_zero : (block : ℕ) (es : UnitMap) → All (λ k. nat_cmp block k ≡ Less) (keys_of es) → above 0 es ≡ es
 behind_zero block [] all = refl
 behind_zero block (e ∷ es) all =
@@ -27,7 +27,7 @@ more : (n : ℕ) → (n == 0) ≡ false → nat_lt 0 n ≡ true
 more n is = grind (arith, nat_tests)
 
 -- without a unit of block 0 all lie above it
-pub first_none : (units : UnitMap) → IsRising units → unit_of units 0 ≡ None → above 0 units ≡ units
+pub first_none : (units : UnitMap) → BlocksRise units → unit_of units 0 ≡ None → above 0 units ≡ units
 first_none [] rising none = refl
 first_none (e ∷ es) rising none =
     let rest = behind_zero e.0 es (All-after_first nat_cmp e.0 (keys_of es) rising) in
@@ -48,8 +48,8 @@ none_behind block (e ∷ es) all =
 none_some : {A : Type 0} (o : Option A) (x : A) → o ≡ None → o ≡ Some x → ⊥
 none_some o x one two = cc
 
--- a unit of block 0 stands first, and the others lie above it
-pub first_some : (units : UnitMap) (unit : CommitUnit) → IsRising units → unit_of units 0 ≡ Some unit → units ≡ (0, unit) ∷ above 0 units
+-- a unit of block 0 comes first, and the others lie above it
+pub first_some : (units : UnitMap) (unit : CommitUnit) → BlocksRise units → unit_of units 0 ≡ Some unit → units ≡ (0, unit) ∷ above 0 units
 first_some [] unit rising is = absurd (cc)
 first_some ((k, x) ∷ es) unit rising is =
     let all = All-after_first nat_cmp k (keys_of es) rising in

@@ -10,7 +10,7 @@ use Rattle.std.specs.Ordering.{is_eq, match_ordering, nat_cmp}
 use Rattle.std.specs.BTreeMap.{insert_entry, is_at}
 use Rattle.s38_commits.specs.Changes.{has_change, has_change_in, note_refusal}
 use Rattle.s38_commits.specs.Unit.{CommitUnit}
-use Rattle.s38_commits.specs.Units.{UnitMap, begun, block_of, ended, is_space_changed, is_unit_in, owner, refusal_in, unit_of}
+use Rattle.s38_commits.specs.Units.{UnitMap, ended, is_space_changed, is_unit_in, owner, refusal_in, unit_block, unit_of, with_empty_unit}
 use Rattle.s38_commits.specs.declared.change.UnitChange.{UnitChange}
 use Rattle.s38_commits.specs.declared.fault.UnitFault.{UnitFault}
 use Rattle.s38_commits.specs.declared.fault.UnitFault.TheVariants.{NoMemory}
@@ -67,31 +67,31 @@ found_alike p k u (e ∷ es) off none =
 abbrev pub empty_unit : ℕ → ℕ → CommitUnit
 empty_unit process number = record { process = process; number = number; changes = [] }
 
-pub begun_there : (units : UnitMap) (block process number : ℕ) → unit_of (begun units block process number) block ≡ Some (empty_unit process number)
+pub begun_there : (units : UnitMap) (block process number : ℕ) → unit_of (with_empty_unit units block process number) block ≡ Some (empty_unit process number)
 begun_there units block process number = written_there block (empty_unit process number) units
 
-pub is_begun : (units new : UnitMap) (block process number : ℕ) → new ≡ begun units block process number → IsSome (unit_of new block)
+pub is_begun : (units new : UnitMap) (block process number : ℕ) → new ≡ with_empty_unit units block process number → IsSome (unit_of new block)
 is_begun units new block process number is =
     subst (λ (o : Option CommitUnit). IsSome o) (sym (ap (λ (us : UnitMap). unit_of us block) is ∙ begun_there units block process number)) refl
 
-pub begun_block_of : (units new : UnitMap) (block process number space at : ℕ) → new ≡ begun units block process number → unit_of units block ≡ None → block_of new space at ≡ block_of units space at
+pub begun_block_of : (units new : UnitMap) (block process number space at : ℕ) → new ≡ with_empty_unit units block process number → unit_of units block ≡ None → unit_block new space at ≡ unit_block units space at
 begun_block_of units new block process number space at is none =
-    ap (λ (us : UnitMap). block_of us space at) is
+    ap (λ (us : UnitMap). unit_block us space at) is
     ∙ ap (λ (o : Option (ℕ × CommitUnit)). option_map (λ e. e.0) o) (found_alike (λ e. has_change space at e.1.changes) block (empty_unit process number) units refl none)
 
 -- no other unit has a change of an entry after a unit without a change was begun
-pub still_free : (units new : UnitMap) (block process number space at : ℕ) → new ≡ begun units block process number → unit_of units block ≡ None →
-    ((other : ℕ) → block_of units space at ≡ Some other → other ≡ block) → (other : ℕ) → block_of new space at ≡ Some other → other ≡ block
+pub still_free : (units new : UnitMap) (block process number space at : ℕ) → new ≡ with_empty_unit units block process number → unit_of units block ≡ None →
+    ((other : ℕ) → unit_block units space at ≡ Some other → other ≡ block) → (other : ℕ) → unit_block new space at ≡ Some other → other ≡ block
 still_free units new block process number space at is none free other stands =
     free other (sym (begun_block_of units new block process number space at is none) ∙ stands)
 
 -- begun, left as it was, and ended
-pub ended_again : (units begun_in noted_in last : UnitMap) (block process number : ℕ) → unit_of units block ≡ None → begun_in ≡ begun units block process number → noted_in ≡ begun_in → last ≡ ended noted_in block → last ≡ units
+pub ended_again : (units begun_in noted_in last : UnitMap) (block process number : ℕ) → unit_of units block ≡ None → begun_in ≡ with_empty_unit units block process number → noted_in ≡ begun_in → last ≡ ended noted_in block → last ≡ units
 ended_again units begun_in noted_in last block process number none is same less =
     less ∙ ap (λ (us : UnitMap). ended us block) (same ∙ is) ∙ gone_again block (empty_unit process number) units none
 
 -- a change that a unit without a change does not refuse wanted memory
-pub only_memory : (units new : UnitMap) (block process number : ℕ) (change : UnitChange) (fault : UnitFault) → new ≡ begun units block process number → note_refusal [] change ≡ None →
+pub only_memory : (units new : UnitMap) (block process number : ℕ) (change : UnitChange) (fault : UnitFault) → new ≡ with_empty_unit units block process number → note_refusal [] change ≡ None →
     fault ≡ unwrap_or (refusal_in new block change) NoMemory → fault ≡ NoMemory
 only_memory units new block process number change fault is none told =
     told

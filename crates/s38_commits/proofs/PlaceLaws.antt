@@ -1,4 +1,4 @@
--- The commit blocks stand at the places of the entries that their units change.
+-- The commit blocks are at the places of the entries that their units change.
 use Rattle.std.proofs.Common.{◌≡◌, ℕ, suc, ◌==◌, Bool, true, false, cond, List, [], ◌∷◌, refl, sym, ◌∙◌, ap, subst, arith}
 use Rattle.std.proofs.lemmas.Bool.Decides.{nat_tests}
 use Rattle.std.proofs.lemmas.List.Folds.{list_any-append}
@@ -15,9 +15,9 @@ use Rattle.std.specs.List.{AllByRecursion}
 use Rattle.std.specs.List.Sorted.{IsStrictlySortedBy}
 use Rattle.std.specs.Map.{keys_of, lookup}
 use Rattle.std.specs.BTreeMap.{BTreeMap, get, is_at}
-use Rattle.s38_commits.specs.Changes.{has_change, is_of}
+use Rattle.s38_commits.specs.Changes.{has_change, is_of_entry}
 use Rattle.s38_commits.specs.Unit.{CommitUnit, noted}
-use Rattle.s38_commits.specs.Units.{IsRising, UnitMap, block_of, changes_entry, holder, owner, unit_of, with_change}
+use Rattle.s38_commits.specs.Units.{BlocksRise, UnitMap, changes_entry, holder, owner, unit_block, unit_of, with_change}
 use Rattle.s38_commits.specs.Places.{AreEntered, is_block, place, place_cmp}
 use Rattle.s38_commits.specs.declared.change.UnitChange.{UnitChange}
 use Rattle.s38_commits.specs.declared.place.Place.{Place}
@@ -34,15 +34,15 @@ both_equal Equal b = refl
 both_equal Greater b = refl
 
 -- the place of a changed entry is the place of an entry where the change is of that entry
-pub place_same : (change : UnitChange) (space at : ℕ) → is_at (place_cmp (place change.space.0 change.at)) (place space at) ≡ is_of space at change
+pub place_same : (change : UnitChange) (space at : ℕ) → is_at (place_cmp (place change.space.0 change.at)) (place space at) ≡ is_of_entry space at change
 place_same change space at = rw (both_equal, nat_ties change.space.0 space, nat_ties change.at at) refl
 
 -- ---- which unit has a change of an entry
 
--- what stands at the place of an entry, with its unit
-abbrev pub stander : UnitMap → Option ℕ → Option (ℕ × CommitUnit)
-stander units None = None
-stander units (Some block) = option_map (λ u. (block, u)) (unit_of units block)
+-- the block at the place of an entry, with its unit
+abbrev pub block_there : UnitMap → Option ℕ → Option (ℕ × CommitUnit)
+block_there units None = None
+block_there units (Some block) = option_map (λ u. (block, u)) (unit_of units block)
 
 find_alike : {X : Type 0} (p q : X → Bool) (xs : List X) → AllByRecursion (λ x. p x ≡ q x) xs → find p xs ≡ find q xs
 find_alike p q [] h = refl
@@ -64,7 +64,7 @@ find_block block (e ∷ es) =
       | false ↦ λ is. rest
     ] refl)
 
-find_stander : (there : Option ℕ) (es : UnitMap) → find (λ e. is_block e.0 there) es ≡ stander es there
+find_stander : (there : Option ℕ) (es : UnitMap) → find (λ e. is_block e.0 there) es ≡ block_there es there
 find_stander None es = find_none es
 find_stander (Some block) es = find_block block es
 
@@ -73,14 +73,14 @@ all_from_places P [] h = tt
 all_from_places P (x ∷ xs) h = (h 0 x refl, all_from_places P xs (λ i y e. h (suc i) y e))
 
 -- what holds of the unit of each block holds of each pair
-each_unit : (P : ℕ × CommitUnit → Type 0) (es : UnitMap) → IsRising es → ((block : ℕ) (u : CommitUnit) → unit_of es block ≡ Some u → P (block, u)) → AllByRecursion P es
+each_unit : (P : ℕ × CommitUnit → Type 0) (es : UnitMap) → BlocksRise es → ((block : ℕ) (u : CommitUnit) → unit_of es block ≡ Some u → P (block, u)) → AllByRecursion P es
 each_unit P es rising h = all_from_places P es (λ i x e. h x.0 x.1
     (lookup_from_place (eq_by_cmp_equiv nat_cmp_total) es i x.0 x.1 (IsDistinct-from_sorted nat_cmp (keys_of es) rising) e))
 
 changes_known : (o : Option CommitUnit) (u : CommitUnit) (space at : ℕ) → o ≡ Some u → changes_entry o space at ≡ has_change space at u.changes
 changes_known o u space at h = ap (λ o. changes_entry o space at) h
 
-pub owner_stands : (units : UnitMap) (places : BTreeMap Place ℕ) (space at : ℕ) → AreEntered units places → owner units space at ≡ stander units (get place_cmp places (place space at))
+pub owner_stands : (units : UnitMap) (places : BTreeMap Place ℕ) (space at : ℕ) → AreEntered units places → owner units space at ≡ block_there units (get place_cmp places (place space at))
 owner_stands units places space at h =
     let there = get place_cmp places (place space at) in
     let alike : AllByRecursion (λ e. has_change space at e.1.changes ≡ is_block e.0 there) units =
@@ -88,8 +88,8 @@ owner_stands units places space at h =
     (λ block u found. sym (changes_known (unit_of units block) u space at found) ∙ sym (h.entered block space at)) in
     find_alike (λ e. has_change space at e.1.changes) (λ e. is_block e.0 there) units alike ∙ find_stander there units
 
--- what stands at a place has a unit
-stands_alone : (units : UnitMap) (there : Option ℕ) (space at : ℕ) → ((block : ℕ) → is_block block there ≡ changes_entry (unit_of units block) space at) → option_map (λ e. e.0) (stander units there) ≡ there
+-- the block at a place has a unit
+stands_alone : (units : UnitMap) (there : Option ℕ) (space at : ℕ) → ((block : ℕ) → is_block block there ≡ changes_entry (unit_of units block) space at) → option_map (λ e. e.0) (block_there units there) ≡ there
 stands_alone units None space at h = refl
 stands_alone units (Some block) space at h =
     let on : changes_entry (unit_of units block) space at ≡ true = sym (h block) ∙ nat_itself block in
@@ -98,15 +98,15 @@ stands_alone units (Some block) space at h =
       | Some u ↦ λ q. refl
     ] on
 
-pub block_stands : (units : UnitMap) (places : BTreeMap Place ℕ) (space at : ℕ) → AreEntered units places → block_of units space at ≡ get place_cmp places (place space at)
+pub block_stands : (units : UnitMap) (places : BTreeMap Place ℕ) (space at : ℕ) → AreEntered units places → unit_block units space at ≡ get place_cmp places (place space at)
 block_stands units places space at h =
     ap (λ (o : Option (ℕ × CommitUnit)). option_map (λ e. e.0) o) (owner_stands units places space at h)
     ∙ stands_alone units (get place_cmp places (place space at)) space at (λ block. h.entered block space at)
 
 -- ---- one more change
 
-noted_too : (change : UnitChange) (o : Option CommitUnit) (u : CommitUnit) (space at : ℕ) → o ≡ Some u → changes_entry (option_map (noted change) o) space at ≡ (changes_entry o space at || is_of space at change)
-noted_too change o u space at h = rw h (list_any-append (is_of space at) u.changes (change ∷ []) ∙ or_false (has_change space at u.changes) (is_of space at change))
+noted_too : (change : UnitChange) (o : Option CommitUnit) (u : CommitUnit) (space at : ℕ) → o ≡ Some u → changes_entry (option_map (noted change) o) space at ≡ (changes_entry o space at || is_of_entry space at change)
+noted_too change o u space at h = rw h (list_any-append (is_of_entry space at) u.changes (change ∷ []) ∙ or_false (has_change space at u.changes) (is_of_entry space at change))
   where
     or_false : (a b : Bool) → (a || (b || false)) ≡ (a || b)
     or_false true b = refl
@@ -121,7 +121,7 @@ or_off : (a b : Bool) → b ≡ false → (a || b) ≡ a
 or_off true b h = refl
 or_off false b h = h
 
--- whatever stands at a place is that block
+-- whatever is at a place is that block
 abbrev pub IsFree : Option ℕ → ℕ → Type 0
 IsFree there block = (other : ℕ) → there ≡ Some other → other ≡ block
 
@@ -129,7 +129,7 @@ free_other : (there : Option ℕ) (block other : ℕ) → IsFree there block →
 free_other None block other free off = refl
 free_other (Some x) block other free off = ap (λ k. other == k) (free x refl) ∙ off
 
-same_place : (change : UnitChange) (space at : ℕ) → is_of space at change ≡ true → place change.space.0 change.at ≡ place space at
+same_place : (change : UnitChange) (space at : ℕ) → is_of_entry space at change ≡ true → place change.space.0 change.at ≡ place space at
 same_place change space at h =
     let spaces : change.space.0 ≡ space = nat_same change.space.0 space (and_left (change.space.0 == space) (change.at == at) h) in
     let ordinals : change.at ≡ at = nat_same change.at at (and_right (change.space.0 == space) (change.at == at) h) in
@@ -160,7 +160,7 @@ pub entered_more : (units : UnitMap) (places new : BTreeMap Place ℕ) (change :
 entered_more units places new change block u h found free updated = record {
   rising = subst (λ (ks : List ℕ). IsStrictlySortedBy nat_cmp ks) (sym (keys_changed block (noted change) units)) h.rising;
   entered = λ k space at.
-      let b = is_of space at change in
+      let b = is_of_entry space at change in
       let old = get place_cmp places (place space at) in
       let now : get place_cmp new (place space at) ≡ cond b (Some block) old =
       updated (place space at) ∙ ap (λ c. cond c (Some block) old) (place_same change space at) in
@@ -180,7 +180,7 @@ entered_more units places new change block u h found free updated = record {
 
 pub entered_same : (units kept : UnitMap) (places held : BTreeMap Place ℕ) → AreEntered units places → kept ≡ units → held.entries ≡ places.entries → AreEntered kept held
 entered_same units kept places held h same alike = record {
-  rising = subst (λ (us : UnitMap). IsRising us) (sym same) h.rising;
+  rising = subst (λ (us : UnitMap). BlocksRise us) (sym same) h.rising;
   entered = λ block space at.
       ap (λ (es : List (Place × ℕ)). is_block block (lookup (is_at (place_cmp (place space at))) es)) alike
       ∙ h.entered block space at
@@ -201,7 +201,7 @@ less_there : (block other : ℕ) (b : Bool) (old : Option ℕ) → is_block bloc
 less_there block other true old is off = sym (is_one block other old is off)
 less_there block other false old is off = refl
 
-pub entered_less : (units left : UnitMap) (places new : BTreeMap Place ℕ) (block : ℕ) (u : CommitUnit) → AreEntered units places → unit_of units block ≡ Some u → IsRising left →
+pub entered_less : (units left : UnitMap) (places new : BTreeMap Place ℕ) (block : ℕ) (u : CommitUnit) → AreEntered units places → unit_of units block ≡ Some u → BlocksRise left →
     ((q : ℕ) → unit_of left q ≡ cond (is_at (nat_cmp block) q) None (unit_of units q)) →
     ((space at : ℕ) → get place_cmp new (place space at) ≡ cond (has_change space at u.changes) None (get place_cmp places (place space at))) →
     AreEntered left new
@@ -228,25 +228,25 @@ gone_too places new shown changes same gone space at =
 
 -- ---- what is read
 
-pub block_read : (units seen : UnitMap) (places : BTreeMap Place ℕ) (space at : ℕ) (p : Place) (r : Option ℕ) → AreEntered units places → units ≡ seen → p ≡ place space at → r ≡ get place_cmp places p → r ≡ block_of seen space at
+pub block_read : (units seen : UnitMap) (places : BTreeMap Place ℕ) (space at : ℕ) (p : Place) (r : Option ℕ) → AreEntered units places → units ≡ seen → p ≡ place space at → r ≡ get place_cmp places p → r ≡ unit_block seen space at
 block_read units seen places space at p r h same is read =
-    read ∙ ap (get place_cmp places) is ∙ sym (block_stands units places space at h) ∙ ap (λ (us : UnitMap). block_of us space at) same
+    read ∙ ap (get place_cmp places) is ∙ sym (block_stands units places space at h) ∙ ap (λ (us : UnitMap). unit_block us space at) same
 
--- the process of the unit that stands at a place, if there is one
+-- the process of the unit that is at a place, if there is one
 abbrev pub process_at : ℕ → Option CommitUnit → Option ℕ
 process_at block o = option_map (λ (e : ℕ × CommitUnit). e.1.process) (option_map (λ u. (block, u)) o)
 
 pub holder_read : (units seen : UnitMap) (places : BTreeMap Place ℕ) (space at : ℕ) (p : Place) (r : Option ℕ) → AreEntered units places → units ≡ seen → p ≡ place space at → r ≡ get place_cmp places p →
-    option_map (λ e. e.1.process) (stander units r) ≡ holder seen space at
+    option_map (λ e. e.1.process) (block_there units r) ≡ holder seen space at
 holder_read units seen places space at p r h same is read =
-    ap (λ (o : Option ℕ). option_map (λ (e : ℕ × CommitUnit). e.1.process) (stander units o)) (read ∙ ap (get place_cmp places) is)
+    ap (λ (o : Option ℕ). option_map (λ (e : ℕ × CommitUnit). e.1.process) (block_there units o)) (read ∙ ap (get place_cmp places) is)
     ∙ ap (λ (o : Option (ℕ × CommitUnit)). option_map (λ e. e.1.process) o) (sym (owner_stands units places space at h))
     ∙ ap (λ (us : UnitMap). holder us space at) same
 
--- no unit stands at a place, or that of the block
-pub free_read : (units seen : UnitMap) (places : BTreeMap Place ℕ) (space at block : ℕ) → AreEntered units places → units ≡ seen → IsFree (block_of seen space at) block → IsFree (get place_cmp places (place space at)) block
+-- no unit is at a place, or that of the block
+pub free_read : (units seen : UnitMap) (places : BTreeMap Place ℕ) (space at block : ℕ) → AreEntered units places → units ≡ seen → IsFree (unit_block seen space at) block → IsFree (get place_cmp places (place space at)) block
 free_read units seen places space at block h same free =
-    subst (λ (o : Option ℕ). IsFree o block) (ap (λ (us : UnitMap). block_of us space at) (sym same) ∙ block_stands units places space at h) free
+    subst (λ (o : Option ℕ). IsFree o block) (ap (λ (us : UnitMap). unit_block us space at) (sym same) ∙ block_stands units places space at h) free
 
 -- ---- a change is noted
 
@@ -255,7 +255,7 @@ some_unit None h = absurd (cc)
 some_unit (Some u) h = (u, refl)
 
 pub noted_entered : (units seen after : UnitMap) (places new : BTreeMap Place ℕ) (change copy : UnitChange) (block : ℕ) (p : Place) → AreEntered units places → units ≡ seen →
-    after ≡ with_change units block copy → copy ≡ change → IsSome (unit_of seen block) → IsFree (block_of seen change.space.0 change.at) block → p ≡ place change.space.0 change.at →
+    after ≡ with_change units block copy → copy ≡ change → IsSome (unit_of seen block) → IsFree (unit_block seen change.space.0 change.at) block → p ≡ place change.space.0 change.at →
     ((q : Place) → get place_cmp new q ≡ cond (is_at (place_cmp p) q) (Some block) (get place_cmp places q)) → AreEntered after new
 noted_entered units seen after places new change copy block p h same more is begun free at updated =
     let there = some_unit (unit_of units block) (subst (λ (us : UnitMap). IsSome (unit_of us block)) (sym same) begun) in

@@ -12,7 +12,7 @@ use Rattle.std.specs.List.{All}
 use Rattle.std.specs.Map.{keys_of, remove_entry}
 use Rattle.std.specs.BTreeMap.{is_at}
 use Rattle.s38_commits.specs.Unit.{CommitUnit}
-use Rattle.s38_commits.specs.Units.{IsRising, UnitMap, above, ended, is_above, next_block, unit_of}
+use Rattle.s38_commits.specs.Units.{BlocksRise, UnitMap, above, ended, is_above, next_block, unit_of}
 use Rattle.s38_commits.proofs.MapLaws.{at_key, nat_itself, nat_same}
 
 some_none : {A : Type 0} (x : A) → Some x ≡ None → ⊥
@@ -58,7 +58,7 @@ next_above (e ∷ es) after block next =
       | false ↦ λ is q. rest q
     ] refl next
 
--- all that stand behind a block lie above each number up to it
+-- all that come after a block lie above each number up to it
 all_above : (block after : ℕ) (es : UnitMap) → All (λ k. nat_cmp block k ≡ Less) (keys_of es) → after ≤ block → above after es ≡ es
 all_above block after [] all low = refl
 all_above block after (e ∷ es) all low =
@@ -72,7 +72,7 @@ pub record IsNext (units : UnitMap) (after block : ℕ) : Type 0 where
   pub stands : unit_of units block ≡ Some unit
   pub above : above after units ≡ (block, unit) ∷ above block units
 
-next_here : (after block : ℕ) (e : ℕ × CommitUnit) (es : UnitMap) → IsRising (e ∷ es) → nat_lt after e.0 ≡ true → e.0 ≡ block → IsNext (e ∷ es) after block
+next_here : (after block : ℕ) (e : ℕ × CommitUnit) (es : UnitMap) → BlocksRise (e ∷ es) → nat_lt after e.0 ≡ true → e.0 ≡ block → IsNext (e ∷ es) after block
 next_here after block e es rising is same =
     subst (λ (k : ℕ). IsNext (e ∷ es) after k) same (record {
       unit = e.1;
@@ -94,7 +94,7 @@ next_later after block e es is low rest =
       above = rw (is, lt_fails block e.0 (omega arith)) rest.above;
     }
 
-pub next_some : (units : UnitMap) (after block : ℕ) → IsRising units → next_block units after ≡ Some block → IsNext units after block
+pub next_some : (units : UnitMap) (after block : ℕ) → BlocksRise units → next_block units after ≡ Some block → IsNext units after block
 next_some [] after block rising next = absurd (cc)
 next_some (e ∷ es) after block rising next =
     let rest = next_some es after block (sorted_tail nat_cmp e.0 (keys_of es) rising) in

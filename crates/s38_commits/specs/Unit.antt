@@ -18,6 +18,6 @@ abbrev pub without_newest : CommitUnit → CommitUnit
 without_newest unit = record unit { changes = take (length unit.changes - 1) unit.changes }
 
 -- the bytes of the changes are counted, and not too many
-pub record IsCounted (bytes : ℕ) (changes : List UnitChange) : Type 0 where
+pub record BytesAreCounted (bytes : ℕ) (changes : List UnitChange) : Type 0 where
   pub counted : bytes ≡ unit_bytes changes
   pub within : bytes ≤ largest_unit

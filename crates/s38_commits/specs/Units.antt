@@ -21,25 +21,25 @@ unit_of units block = lookup (is_at (nat_cmp block)) units
 -- ---- how the units change
 
 -- a unit without a change
-abbrev pub begun : UnitMap → ℕ → ℕ → ℕ → UnitMap
-begun units block process number = insert_entry nat_cmp units block (record { process = process; number = number; changes = [] })
+abbrev pub with_empty_unit : UnitMap → ℕ → ℕ → ℕ → UnitMap
+with_empty_unit units block process number = insert_entry nat_cmp units block (record { process = process; number = number; changes = [] })
 
 -- the unit of a block is another one from now on
-abbrev pub changed_at : UnitMap → ℕ → (CommitUnit → CommitUnit) → UnitMap
-changed_at [] block f = []
-changed_at (e ∷ es) block f = if e.0 == block then (e.0, f e.1) ∷ es else e ∷ changed_at es block f
+abbrev pub with_unit_changed : UnitMap → ℕ → (CommitUnit → CommitUnit) → UnitMap
+with_unit_changed [] block f = []
+with_unit_changed (e ∷ es) block f = if e.0 == block then (e.0, f e.1) ∷ es else e ∷ with_unit_changed es block f
 
 -- one more change in the unit of a block
 abbrev pub with_change : UnitMap → ℕ → UnitChange → UnitMap
-with_change units block change = changed_at units block (noted change)
+with_change units block change = with_unit_changed units block (noted change)
 
 -- a unit of the block: the one that it has, or else one without a change
-abbrev pub opened : UnitMap → ℕ → ℕ → ℕ → UnitMap
-opened units block process number = if is_some (unit_of units block) then units else begun units block process number
+abbrev pub with_unit_opened : UnitMap → ℕ → ℕ → ℕ → UnitMap
+with_unit_opened units block process number = if is_some (unit_of units block) then units else with_empty_unit units block process number
 
 -- one more change in the unit of a block, which is begun where the block has none
-abbrev pub joined : UnitMap → ℕ → ℕ → ℕ → UnitChange → UnitMap
-joined units block process number change = with_change (opened units block process number) block change
+abbrev pub with_change_joined : UnitMap → ℕ → ℕ → ℕ → UnitChange → UnitMap
+with_change_joined units block process number change = with_change (with_unit_opened units block process number) block change
 
 -- no unit of the block any more
 abbrev pub ended : UnitMap → ℕ → UnitMap
@@ -65,8 +65,8 @@ abbrev pub owner : UnitMap → ℕ → ℕ → Option (ℕ × CommitUnit)
 owner units space at = find (λ e. has_change space at e.1.changes) units
 
 -- the block of that unit
-abbrev pub block_of : UnitMap → ℕ → ℕ → Option ℕ
-block_of units space at = option_map (λ e. e.0) (owner units space at)
+abbrev pub unit_block : UnitMap → ℕ → ℕ → Option ℕ
+unit_block units space at = option_map (λ e. e.0) (owner units space at)
 
 -- the process of that unit
 abbrev pub holder : UnitMap → ℕ → ℕ → Option ℕ
@@ -94,8 +94,8 @@ is_space_changed units space = list_any (is_unit_in space) units
 
 -- ---- what is true of them
 
-abbrev pub IsRising : UnitMap → Type 0
-IsRising units = IsStrictlySortedBy nat_cmp (keys_of units)
+abbrev pub BlocksRise : UnitMap → Type 0
+BlocksRise units = IsStrictlySortedBy nat_cmp (keys_of units)
 
 -- whether the unit of a block has a change of an entry
 abbrev pub changes_entry : Option CommitUnit → ℕ → ℕ → Bool
@@ -103,6 +103,6 @@ changes_entry None space at = false
 changes_entry (Some unit) space at = has_change space at unit.changes
 
 -- an entry is changed in one unit at most
-abbrev pub AreApart : UnitMap → Type 0
-AreApart units = (one other space at : ℕ) → changes_entry (unit_of units one) space at ≡ true
+abbrev pub AreDisjoint : UnitMap → Type 0
+AreDisjoint units = (one other space at : ℕ) → changes_entry (unit_of units one) space at ≡ true
     → changes_entry (unit_of units other) space at ≡ true → one ≡ other

@@ -1,5 +1,5 @@
 ghost use Rattle.std.specs.Prelude.{◌≡◌, ◌<◌, ◌^◌, nat_le, IfOk};
-ghost use Rattle.s38_commits.specs.Changes.{entry_bytes, is_of, journal_bytes};
+ghost use Rattle.s38_commits.specs.Changes.{entry_size, is_of_entry, journal_bytes};
 
 use s38_base::{Bytes, NoMemory, ObjNum, TryClone};
 use std::alloc::Global;
@@ -17,7 +17,7 @@ pub struct UnitChange {
 }
 
 fn entry_bytes(entry: &Option<Bytes>) -> usize
-    ensures { result ≡ entry_bytes entry.now }
+    ensures { result ≡ entry_size entry.now }
 {
     match entry {
         Some(bytes) => bytes.len(),

@@ -7,7 +7,7 @@ use crate::change::UnitChange;
 use s38_base::ObjNum;
 use std::collections::BTreeMap;
 
-/// Where an entry stands: its data space, and its ordinal.
+/// The place of an entry: its data space, and its ordinal.
 #[derive(Clone, Copy, PartialEq, Eq, PartialOrd, Ord, Debug)]
 pub struct Place {
     pub space: u64,

@@ -22,13 +22,13 @@ pub struct Unit {
 }
 
 impl Model for Unit {
-    ghost use Rattle.s38_commits.specs.Unit.{CommitUnit, IsCounted};
+    ghost use Rattle.s38_commits.specs.Unit.{BytesAreCounted, CommitUnit};
 
     ghost Value = { CommitUnit };
 
     ghost view = { λ u. record { process = u.process; number = u.number; changes = u.changes.items } };
 
-    ghost invariant = { λ u. IsCounted u.bytes u.changes.items };
+    ghost invariant = { λ u. BytesAreCounted u.bytes u.changes.items };
 }
 
 impl Unit {
@@ -94,7 +94,7 @@ impl Unit {
         }
     }
 
-    /// Notes a change behind the others; an error leaves the unit as it was.
+    /// Notes a change after the others; an error leaves the unit as it was.
     pub(crate) fn note(&mut self, change: UnitChange) -> Result<(), NoMemory>
         requires { note_refusal self.old.changes change ≡ None }
         ensures ok { OnOk result (self.new ≡ noted change self.old) }

@@ -2,7 +2,7 @@ ghost use Rattle.std.specs.Prelude.{◌≡◌, None, OnOk, OnErr};
 ghost use Rattle.std.specs.Option.{ForSome};
 ghost use Rattle.s38_commits.specs.Changes.{note_refusal};
 ghost use Rattle.s38_commits.specs.Unit.{without_newest};
-ghost use Rattle.s38_commits.specs.Units.{changed_at, is_space_changed, unit_of, with_change};
+ghost use Rattle.s38_commits.specs.Units.{is_space_changed, unit_of, with_change, with_unit_changed};
 
 use crate::change::UnitChange;
 use crate::unit::Unit;
@@ -23,7 +23,7 @@ pub fn note(units: &mut BTreeMap<u64, Unit>, block: u64, change: UnitChange) -> 
 
 /// Takes the newest change of the unit of a block back.
 pub fn take_back(units: &mut BTreeMap<u64, Unit>, block: u64)
-    ensures { units.new.entries ≡ changed_at units.old.entries block without_newest }
+    ensures { units.new.entries ≡ with_unit_changed units.old.entries block without_newest }
 {
     if let Some(unit) = units.get_mut(&block) {
         unit.take_back();

@@ -2,7 +2,7 @@ ghost use Rattle.std.specs.Prelude.{◌≡◌, ◌<◌, ◌^◌, [], None, IfErr
 ghost use Rattle.std.specs.Map.{keys_of};
 ghost use Rattle.std.specs.Option.{ForSome, option_copied, option_map, unwrap_or};
 ghost use Rattle.s38_commits.specs.Changes.{note_refusal};
-ghost use Rattle.s38_commits.specs.Units.{AreApart, IsRising, begun, block_of, ended, holder, is_space_changed, join_refusal, joined, next_block, refusal_in, unit_of, with_change};
+ghost use Rattle.s38_commits.specs.Units.{AreDisjoint, BlocksRise, ended, holder, is_space_changed, join_refusal, next_block, refusal_in, unit_block, unit_of, with_change, with_change_joined, with_empty_unit};
 
 use crate::change::UnitChange;
 use crate::fault::UnitFault;
@@ -51,8 +51,8 @@ impl Units {
     /// The unit of a commit block, in logarithmic time; None exactly where it has none.
     pub fn get(&self, block: ObjNum) -> Option<&Unit>
         ensures unit { option_copied result ≡ unit_of self.now block.0 }
-        ensures apart { AreApart self.now }
-        ensures rising { IsRising self.now }
+        ensures apart { AreDisjoint self.now }
+        ensures rising { BlocksRise self.now }
     {
         self.units.get(&block.0)
     }
@@ -60,7 +60,7 @@ impl Units {
     /// Begins the unit of a commit block that has none; an error leaves the units as they were.
     pub fn begin(&mut self, block: ObjNum, process: u32, number: u64) -> Result<(), NoMemory>
         requires { unit_of self.old block.0 ≡ None }
-        ensures ok { OnOk result (self.new ≡ begun self.old block.0 process number) }
+        ensures ok { OnOk result (self.new ≡ with_empty_unit self.old block.0 process number) }
         ensures err { OnErr result (self.new ≡ self.old) }
     {
         let unit = Unit::new(self.alloc, process, number);
@@ -82,12 +82,12 @@ impl Units {
         }
     }
 
-    /// Notes a change behind the others of a commit block's unit. No other unit may have a change of that entry.
+    /// Notes a change after the others of a commit block's unit. No other unit may have a change of that entry.
     /// `Full` exactly where the unit's changes would take more than 1,048,576 bytes of a journal; an error leaves
     /// the units as they were.
     pub fn note(&mut self, block: ObjNum, change: &UnitChange) -> Result<(), UnitFault>
         requires begun { IsSome (unit_of self.old block.0) }
-        requires free { ForSome (block_of self.old change.now.space.0 change.now.at) (λ other. other ≡ block.0) }
+        requires free { ForSome (unit_block self.old change.now.space.0 change.now.at) (λ other. other ≡ block.0) }
         ensures accepted { OnOk result (refusal_in self.old block.0 change.now ≡ None) }
         ensures ok { OnOk result (self.new ≡ with_change self.old block.0 change.now) }
         ensures fault { IfErr result (λ fault. fault ≡ unwrap_or (refusal_in self.old block.0 change.now) UnitFault.NoMemory) }
@@ -133,10 +133,10 @@ impl Units {
         number: u64,
         change: &UnitChange,
     ) -> Result<(), UnitFault>
-        requires free { ForSome (block_of self.old change.now.space.0 change.now.at) (λ other. other ≡ block.0) }
+        requires free { ForSome (unit_block self.old change.now.space.0 change.now.at) (λ other. other ≡ block.0) }
         requires new { unit_of self.old block.0 ≡ None }
         requires fits { note_refusal [] change.now ≡ None }
-        ensures ok { OnOk result (self.new ≡ with_change (begun self.old block.0 process number) block.0 change.now) }
+        ensures ok { OnOk result (self.new ≡ with_change (with_empty_unit self.old block.0 process number) block.0 change.now) }
         ensures fault { IfErr result (λ fault. fault ≡ UnitFault.NoMemory) }
         ensures err { OnErr result (self.new ≡ self.old) }
     {
@@ -153,7 +153,7 @@ impl Units {
         }
     }
 
-    /// Notes a change behind the others of a commit block's unit, which is begun for the process and under the number
+    /// Notes a change after the others of a commit block's unit, which is begun for the process and under the number
     /// where the block has none. No other unit may have a change of that entry. `Full` exactly where the unit's changes
     /// would take more than 1,048,576 bytes of a journal; an error leaves the units as they were.
     pub fn join(
@@ -163,9 +163,9 @@ impl Units {
         number: u64,
         change: &UnitChange,
     ) -> Result<(), UnitFault>
-        requires { ForSome (block_of self.old change.now.space.0 change.now.at) (λ other. other ≡ block.0) }
+        requires { ForSome (unit_block self.old change.now.space.0 change.now.at) (λ other. other ≡ block.0) }
         ensures accepted { OnOk result (join_refusal self.old block.0 change.now ≡ None) }
-        ensures ok { OnOk result (self.new ≡ joined self.old block.0 process number change.now) }
+        ensures ok { OnOk result (self.new ≡ with_change_joined self.old block.0 process number change.now) }
         ensures fault { IfErr result (λ fault. fault ≡ unwrap_or (join_refusal self.old block.0 change.now) UnitFault.NoMemory) }
         ensures err { OnErr result (self.new ≡ self.old) }
     {
@@ -188,7 +188,7 @@ impl Units {
 
     /// The commit block whose unit has a change of an entry, in logarithmic time.
     pub fn block_of(&self, space: ObjNum, at: u32) -> Option<ObjNum>
-        ensures { option_map (λ block. block.0) result ≡ block_of self.now space.0 at }
+        ensures { option_map (λ block. block.0) result ≡ unit_block self.now space.0 at }
     {
         match self.places.get(&place_of(space, at)) {
             Some(block) => Some(ObjNum(*block)),
@@ -215,7 +215,7 @@ impl Units {
     /// The least commit block above a number that has a unit, in logarithmic time.
     pub fn next_block(&self, after: ObjNum) -> Option<ObjNum>
         ensures next { option_map (λ block. block.0) result ≡ next_block self.now after.0 }
-        ensures rising { IsRising self.now }
+        ensures rising { BlocksRise self.now }
     {
         let above = (Bound::Excluded(after.0), Bound::Unbounded);
         match self.units.range(above).next() {

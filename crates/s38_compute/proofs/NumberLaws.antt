@@ -8,7 +8,8 @@ use Rattle.s38_base.specs.declared.attr.Attr.{Attr}
 use Rattle.s38_base.specs.declared.exception.Exception.{Exception}
 use Rattle.s38_base.specs.declared.op.Op.{Op}
 use Rattle.s38_base.specs.declared.pointer.Pointer.{Pointer}
-use Rattle.s38_base.specs.Scalar.{digits_of, fits, fraction_of, is_numeric}
+use Rattle.s38_base.specs.Scalar.{fits}
+use Rattle.s38_base.specs.Attributes.{digits_of, fraction_of, is_numeric}
 use Rattle.s38_decimal.specs.declared.dec.Dec.{Dec}
 use Rattle.s38_decimal.specs.declared.dec.DecimalFault.{DecimalFault}
 use Rattle.s38_decimal.specs.declared.dec.DecimalFault.TheVariants.{Size}
@@ -17,7 +18,7 @@ use Rattle.s38_decimal.specs.Values.{Exact, answer, difference_of, exact, scaled
 use Rattle.s38_decimal.specs.declared.dec.Target.{Target}
 use Rattle.s38_base.specs.declared.op.Op.TheVariants.{Addn, Subn}
 use Rattle.s38_decimal.proofs.Attributes.{digits_few, fraction_le}
-use Rattle.s38_compute.specs.Compute.{has_room, pointer_moved, two_computed}
+use Rattle.s38_compute.specs.Compute.{pointer_moved, result_has_room, two_computed}
 
 -- what holds a number is numeric
 pub fits_numeric : (attr : Attr) (z : ℤ) → IsTrue (fits attr z) → IsTrue (is_numeric attr)
@@ -41,7 +42,7 @@ moved_by_read op p a x (Some n) r is same gives = gives ∙ ap (λ b. pointer_mo
 
 -- ---- sums at one fraction
 
--- both numbers and the receiver have as many digits behind the point, and the receiver holds numbers
+-- both numbers and the receiver have as many digits after the point, and the receiver holds numbers
 abbrev pub plain : Attr → Attr → Attr → Bool
 plain a b to = is_numeric to && has_one_fraction a b to
 
@@ -65,10 +66,10 @@ plain_need a b to first second h =
 true_le : (n m : ℕ) → n ≤ m → nat_le n m ≡ true
 true_le n m h = grind (arith, nat_tests)
 
-plain_computed : (op : Op) (r : Result ℤ DecimalFault) (a b to : Attr) → IsTrue (is_numeric a) → IsTrue (is_numeric b) → plain a b to ≡ true → need_of op a b to (pos 0) ≡ sum_need a b to → r ≡ (if has_room op a b to (pos 0) then r else Err Size)
+plain_computed : (op : Op) (r : Result ℤ DecimalFault) (a b to : Attr) → IsTrue (is_numeric a) → IsTrue (is_numeric b) → plain a b to ≡ true → need_of op a b to (pos 0) ≡ sum_need a b to → r ≡ (if result_has_room op a b to (pos 0) then r else Err Size)
 plain_computed op r a b to first second h is =
     let few : nat_le (need_of op a b to (pos 0)) 38 ≡ true = true_le (need_of op a b to (pos 0)) 38 (omega (arith, is, plain_need a b to first second h)) in
-    let room : has_room op a b to (pos 0) ≡ true = ap (λ t. t && nat_le (need_of op a b to (pos 0)) 38) (plain_numeric a b to h) ∙ few in
+    let room : result_has_room op a b to (pos 0) ≡ true = ap (λ t. t && nat_le (need_of op a b to (pos 0)) 38) (plain_numeric a b to h) ∙ few in
     sym (ap (λ (t : Bool). if t then r else Err Size) room)
 
 pub plain_sum : (op : Op) (to : Target) (a b : Attr) (x y : ℤ) (r : Result ℤ DecimalFault) → IsTrue (is_numeric a) → IsTrue (is_numeric b) → plain a b to.attr ≡ true → op ≡ Addn → r ≡ answer to (sum_of (exact x (fraction_of a)) (exact y (fraction_of b))) → r ≡ two_computed op to a x b y

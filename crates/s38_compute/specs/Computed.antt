@@ -7,14 +7,14 @@ use Rattle.s38_base.specs.declared.op.Op.{Op}
 use Rattle.s38_base.specs.declared.op.Op.TheVariants.{Addn, Subn, Mult, Div, Rem, Cmpnvb, Cpybla, Cpybra, Cpyblap, Cat, Xlate, Cvthc, Cvtch, And, Or, Xor, Not, Cmpblab, Cmpptrt, Addspp, Subspp}
 use Rattle.s38_base.specs.declared.pointer.Pointer.{Pointer}
 use Rattle.s38_base.specs.Relations.{relation_of}
-use Rattle.s38_base.specs.Scalar.{fits, image_of}
+use Rattle.s38_base.specs.Scalar.{fits, scalar_image}
 use Rattle.s38_code.specs.declared.reply.Val.{Val}
 use Rattle.s38_code.specs.declared.reply.Val.TheVariants as vals
 use Rattle.s38_decimal.specs.declared.dec.Target.{Target}
 use Rattle.s38_decimal.specs.Need.{has_one}
 use Rattle.s38_compute.specs.declared.given.Given.{Given}
 use Rattle.s38_compute.specs.declared.given.Given.TheVariants as givens
-use Rattle.s38_compute.specs.Compute.{bytes_order, kind_word, numbers_compared, one_number, pointer_moved, string_given, two_numbers, word_holds}
+use Rattle.s38_compute.specs.Compute.{bytes_order, numbers_compared, one_number, pointer_kind_number, pointer_moved, string_given, two_numbers, word_holds}
 use Rattle.s38_compute.specs.Readings.{Readings}
 
 -- ---- which instructions compute
@@ -81,24 +81,24 @@ is_copy op = copies_left op || copies_right op
 abbrev pub copied_len : Readings → ℕ
 copied_len r = min r.room (length (r.bytes 2))
 
--- a copy at the right goes so many bytes behind the beginning of its receiver
+-- a copy at the right begins so many bytes after the beginning of its receiver
 abbrev pub shift_of : Op → Readings → ℕ
 shift_of op r = if copies_right op then r.room - length (r.bytes 2) else 0
 
 -- ---- what is given
 
-abbrev pub target_of : Bool → Readings → Target
-target_of round r = record { attr = r.receiver; round = round }
+abbrev pub receiver_target : Bool → Readings → Target
+receiver_target round r = record { attr = r.receiver; round = round }
 
 unfoldable pub number_given : Op → Bool → Readings → Result ℤ Exception
 number_given op round r =
-    if has_one op then one_number op (target_of round r) (r.attr 2) (r.number 2) r.power
-    else two_numbers op (target_of round r) (r.attr 2) (r.number 2) (r.attr 3) (r.number 3)
+    if has_one op then one_number op (receiver_target round r) (r.attr 2) (r.number 2) r.power
+    else two_numbers op (receiver_target round r) (r.attr 2) (r.number 2) (r.attr 3) (r.number 3)
 
 unfoldable pub test_given : Op → Readings → Result Bool Exception
 test_given Cmpnvb r = numbers_compared (relation_of (r.word 3)) (r.attr 1) (r.number 1) (r.attr 2) (r.number 2)
 test_given Cmpblab r = Ok (word_holds (relation_of (r.word 3)) (bytes_order (r.bytes 1) (r.bytes 2)))
-test_given _ r = Ok (kind_word (r.pointer 1) == r.word 2)
+test_given _ r = Ok (pointer_kind_number (r.pointer 1) == r.word 2)
 
 -- what a string is written over
 abbrev pub written_over : Op → Readings → List ℕ
@@ -149,19 +149,19 @@ given_in (Some (Err x)) = None
 given_in (Some (Ok given)) = Some given
 
 -- a number that is given fits its receiver
-abbrev pub is_held : Given → Bool
-is_held (givens.Number attr z) = fits attr z
-is_held given = true
+abbrev pub given_is_held : Given → Bool
+given_is_held (givens.Number attr z) = fits attr z
+given_is_held given = true
 
 abbrev pub is_held_in : Option (Result Given Exception) → Bool
-is_held_in (Some (Ok given)) = is_held given
+is_held_in (Some (Ok given)) = given_is_held given
 is_held_in (Some (Err x)) = true
 is_held_in None = true
 
 -- ---- as a value
 
 abbrev pub as_value : Given → Val
-as_value (givens.Number attr z) = vals.Bytes (image_of attr z)
+as_value (givens.Number attr z) = vals.Bytes (scalar_image attr z)
 as_value (givens.Bytes bytes) = vals.Bytes bytes
 as_value (givens.Pointer p) = vals.Ptr (Some p)
 as_value (givens.Branch taken) = vals.Branch taken

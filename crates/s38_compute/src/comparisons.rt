@@ -1,7 +1,7 @@
 ghost use Rattle.std.specs.Prelude.{◌≡◌, IfOk, IfSome, IsTrue, Ok};
 ghost use Rattle.s38_base.specs.declared.op.Op.{Op};
 ghost use Rattle.s38_base.specs.Relations.{relation_of};
-ghost use Rattle.s38_compute.specs.Compute.{compares, kind_word, numbers_compared, word_holds};
+ghost use Rattle.s38_compute.specs.Compute.{compares, numbers_compared, pointer_kind_number, word_holds};
 ghost use Rattle.s38_compute.specs.Computed.{is_branch, test_given};
 ghost use Rattle.s38_compute.specs.Written.{failed};
 
@@ -86,7 +86,7 @@ fn strings_compared<S: Sources>(alloc: Global, sources: &S) -> Result<bool, NoMe
 
 /// The number of the word for a pointer's kind: SYS, SPC, DTA and NONE from 0 on.
 fn kind_word(pointer: Option<Pointer>) -> u32
-    ensures { result ≡ kind_word pointer }
+    ensures { result ≡ pointer_kind_number pointer }
 {
     match pointer {
         Some(Pointer::System { .. }) => 0,

@@ -1,7 +1,7 @@
 ghost use Rattle.std.specs.Prelude.{◌≡◌, IfOk, IsTrue};
 ghost use Rattle.std.specs.Result.{ForOk};
 ghost use Rattle.s38_base.specs.Scalar.{fits};
-ghost use Rattle.s38_compute.specs.Computed.{as_branch, as_bytes, as_number, as_pointer, computed, computes_number, computes_string, failure_in, is_branch, is_computation, is_held, is_held_in, moves_pointer, number_given, value_in};
+ghost use Rattle.s38_compute.specs.Computed.{as_branch, as_bytes, as_number, as_pointer, computed, computes_number, computes_string, failure_in, given_is_held, is_branch, is_computation, is_held_in, moves_pointer, number_given, value_in};
 
 use crate::comparisons::{is_branch, test_failure, test_given};
 use crate::given::Given;
@@ -114,7 +114,7 @@ fn as_pointer(given: Result<Pointer, Exception>) -> Result<Given, Exception>
 fn number<S: Sources>(sources: &S, op: Op, round: bool) -> Result<Given, Exception>
     requires { IsTrue (computes_number op) }
     ensures exact { result ≡ as_number (S.readings sources.now).receiver (number_given op round (S.readings sources.now)) }
-    ensures held { IfOk result (λ given. IsTrue (is_held given)) }
+    ensures held { IfOk result (λ given. IsTrue (given_is_held given)) }
 {
     as_number(sources.receiver(), number_given(sources, op, round))
 }

@@ -32,7 +32,7 @@ fn copied_len<S: Sources>(sources: &S) -> usize
     sources.room().min(sources.size(2))
 }
 
-/// How many bytes behind the beginning of its receiver a copy at the right goes.
+/// How many bytes after the beginning of its receiver a copy at the right begins.
 pub fn shift_of<S: Sources>(sources: &S, op: Op) -> usize
     ensures { result ≡ shift_of op (S.readings sources.now) }
 {

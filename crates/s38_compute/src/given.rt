@@ -1,5 +1,5 @@
 ghost use Rattle.std.specs.Prelude.{◌≡◌, IfOk, IsTrue};
-ghost use Rattle.s38_base.specs.Scalar.{fits, image_of};
+ghost use Rattle.s38_base.specs.Scalar.{fits, scalar_image};
 ghost use Rattle.s38_code.specs.declared.reply.Val.{Val};
 
 use s38_base::{Attr, Bytes, HeldPointer, NoMemory, Pointer};
@@ -22,7 +22,7 @@ pub enum Given {
 #[tactic(auto, using(crate::proofs::NumberLaws::fits_numeric))]
 fn number_value(alloc: Global, attr: Attr, units: i128) -> Result<Val, NoMemory>
     requires { IsTrue (fits attr units) }
-    ensures { IfOk result (λ made. made ≡ Val.Bytes (image_of attr units)) }
+    ensures { IfOk result (λ made. made ≡ Val.Bytes (scalar_image attr units)) }
 {
     let mut made = Bytes::repeated(alloc, 0, attr.length() as usize)?;
     let _ = write_scalar(attr, units, made.as_mut_slice());
@@ -30,11 +30,11 @@ fn number_value(alloc: Global, attr: Attr, units: i128) -> Result<Val, NoMemory>
 }
 
 impl Given {
-    ghost use Rattle.s38_compute.specs.Computed.{as_value, is_held};
+    ghost use Rattle.s38_compute.specs.Computed.{as_value, given_is_held};
 
     /// The value that a receiver gets.
     pub fn into_value(self, alloc: Global) -> Result<Val, NoMemory>
-        requires { IsTrue (is_held self) }
+        requires { IsTrue (given_is_held self) }
         ensures { IfOk result (λ made. made ≡ as_value self) }
     {
         match self {

@@ -1,9 +1,10 @@
 ghost use Rattle.std.specs.Prelude.{◌≡◌, ◌<◌, ◌≤◌, ◌≤ℤ◌, ◌^◌, ◌&&◌, IfOk, IfSome, IsTrue, Ok, pos, negsuc, unsigned_abs};
-ghost use Rattle.s38_base.specs.Scalar.{fits, is_numeric};
+ghost use Rattle.s38_base.specs.Scalar.{fits};
+ghost use Rattle.s38_base.specs.Attributes.{is_numeric};
 ghost use Rattle.s38_decimal.specs.Need.{copy_need, has_one, has_one_fraction, has_second};
 ghost use Rattle.s38_decimal.specs.Values.{answer, exact_of};
-ghost use Rattle.s38_compute.specs.Compute.{fault_signal, has_room, one_computed, one_number, signalled, two_computed, two_numbers};
-ghost use Rattle.s38_compute.specs.Computed.{computes_number, number_given, target_of};
+ghost use Rattle.s38_compute.specs.Compute.{fault_signal, one_computed, one_number, result_has_room, signalled, two_computed, two_numbers};
+ghost use Rattle.s38_compute.specs.Computed.{computes_number, number_given, receiver_target};
 
 use crate::sources::Sources;
 use s38_base::exceptions::{DECIMAL_DATA, SIZE, ZERO_DIVIDE};
@@ -18,7 +19,7 @@ fn has_room(op: Op, a: Attr, b: Attr, to: Attr) -> bool
     requires second { IsTrue (has_second op) }
     requires first { IsTrue (is_numeric a) }
     requires other { IsTrue (is_numeric b) }
-    ensures { result ≡ has_room op a b to (pos 0) }
+    ensures { result ≡ result_has_room op a b to (pos 0) }
 {
     to.is_numeric() && need(op, a, b, to, 0) <= 38
 }
@@ -113,7 +114,7 @@ fn has_room_for(op: Op, a: Attr, to: Attr, power: i8) -> bool
     requires source { IsTrue (is_numeric a) }
     requires least { negsuc 30 ≤ℤ power }
     requires greatest { power ≤ℤ pos 31 }
-    ensures { result ≡ has_room op a a to power }
+    ensures { result ≡ result_has_room op a a to power }
 {
     to.is_numeric() && need(op, a, a, to, power) <= 38
 }
@@ -161,7 +162,7 @@ fn signalled(computed: Result<i128, DecimalFault>) -> Result<i128, Exception>
 }
 
 fn target_of<S: Sources>(sources: &S, round: bool) -> Target
-    ensures { result ≡ target_of round (S.readings sources.now) }
+    ensures { result ≡ receiver_target round (S.readings sources.now) }
 {
     Target {
         attr: sources.receiver(),
@@ -172,7 +173,7 @@ fn target_of<S: Sources>(sources: &S, round: bool) -> Target
 /// What two numeric sources give.
 fn of_two<S: Sources>(sources: &S, op: Op, round: bool) -> Result<i128, Exception>
     requires { IsTrue (has_second op) }
-    ensures exact { result ≡ two_numbers op (target_of round (S.readings sources.now)) ((S.readings sources.now).attr 2) ((S.readings sources.now).number 2) ((S.readings sources.now).attr 3) ((S.readings sources.now).number 3) }
+    ensures exact { result ≡ two_numbers op (receiver_target round (S.readings sources.now)) ((S.readings sources.now).attr 2) ((S.readings sources.now).number 2) ((S.readings sources.now).attr 3) ((S.readings sources.now).number 3) }
     ensures fits { IfOk result (λ units. IsTrue (fits (S.readings sources.now).receiver units)) }
 {
     match sources.number(2) {
@@ -187,7 +188,7 @@ fn of_two<S: Sources>(sources: &S, op: Op, round: bool) -> Result<i128, Exceptio
 /// What one numeric source gives.
 fn of_one<S: Sources>(sources: &S, op: Op, round: bool) -> Result<i128, Exception>
     requires { IsTrue (has_one op) }
-    ensures exact { result ≡ one_number op (target_of round (S.readings sources.now)) ((S.readings sources.now).attr 2) ((S.readings sources.now).number 2) (S.readings sources.now).power }
+    ensures exact { result ≡ one_number op (receiver_target round (S.readings sources.now)) ((S.readings sources.now).attr 2) ((S.readings sources.now).number 2) (S.readings sources.now).power }
     ensures fits { IfOk result (λ units. IsTrue (fits (S.readings sources.now).receiver units)) }
 {
     match sources.number(2) {

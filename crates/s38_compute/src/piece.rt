@@ -2,7 +2,7 @@ ghost use Rattle.std.specs.Prelude.{◌≡◌};
 
 use s38_base::Bytes;
 
-/// Bytes that are read where they stand, or a copy of them.
+/// Bytes that are read where they are, or a copy of them.
 #[derive(Drop)]
 pub enum Piece<'a> {
     Lent(&'a [u8]),

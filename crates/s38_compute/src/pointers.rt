@@ -1,7 +1,7 @@
 ghost use Rattle.std.specs.Prelude.{◌≡◌, ◌<◌, ◌^◌, MatchOption, None, Some, unsigned_abs};
 ghost use Rattle.s38_base.specs.declared.attr.Attr.{Attr};
 ghost use Rattle.s38_decimal.specs.Values.{exact_of, whole_part_of};
-ghost use Rattle.s38_compute.specs.Compute.{is_backwards, moved, offset_in, pointer_moved, pointing};
+ghost use Rattle.s38_compute.specs.Compute.{is_backwards, moved_offset, offset_in, pointer_moved, pointing};
 ghost use Rattle.s38_compute.specs.Computed.{pointer_given};
 
 use crate::sources::Sources;
@@ -29,7 +29,7 @@ fn is_backwards(op: Op) -> bool
 
 fn moved(backwards: bool, offset: u32, by: i128) -> Option<u32>
     requires { unsigned_abs by < 10 ^ 31 }
-    ensures { result ≡ moved backwards offset by }
+    ensures { result ≡ moved_offset backwards offset by }
 {
     if backwards {
         offset_in(offset as i128 - by)
@@ -40,7 +40,7 @@ fn moved(backwards: bool, offset: u32, by: i128) -> Option<u32>
 
 /// The offset, moved by the whole part of a number.
 fn moved_by(backwards: bool, offset: u32, number: Dec) -> Option<u32>
-    ensures { result ≡ moved backwards offset (whole_part_of (exact_of number)) }
+    ensures { result ≡ moved_offset backwards offset (whole_part_of (exact_of number)) }
 {
     let by = whole_part(number);
     moved(backwards, offset, by)
@@ -55,7 +55,7 @@ fn pointing(object: ObjNum, offset: Option<u32>) -> Result<Pointer, Exception>
     }
 }
 
-/// A space pointer, moved by the whole part of a number; None stands for a number without value.
+/// A space pointer, moved by the whole part of a number; None is given for a number without value.
 fn pointer_moved(
     op: Op,
     pointer: Option<Pointer>,

@@ -2,11 +2,11 @@ ghost use Rattle.std.specs.Prelude.{◌≡◌, ◌*◌, ◌==◌, ◌&&◌, [], 
 ghost use Rattle.s38_base.specs.declared.op.Op.{Op};
 ghost use Rattle.s38_strings.specs.Bits.{IsOnBits, combined};
 ghost use Rattle.s38_strings.specs.Copies.{copied_left};
-ghost use Rattle.s38_strings.specs.Hex.{are_hex, is_hex, spelled};
+ghost use Rattle.s38_strings.specs.Hex.{are_hex, bytes_spelled, is_hex};
 ghost use Rattle.s38_strings.specs.Translate.{translated};
 ghost use Rattle.s38_compute.specs.Compute.{string_given, where_long};
 ghost use Rattle.s38_compute.specs.Computed.{bytes_given};
-ghost use Rattle.s38_compute.specs.Written.{bytes_behind, failed};
+ghost use Rattle.s38_compute.specs.Written.{bytes_after, failed};
 
 use crate::copies::written_over;
 use crate::sources::Sources;
@@ -40,7 +40,7 @@ fn is_double(long: usize, short: usize) -> bool
 }
 
 fn spell(into: &mut [u8], from: &[u8])
-    ensures { into.new ≡ where_long (length into.old == 2 * length from.now) (spelled from.now (length into.old)) into.old }
+    ensures { into.new ≡ where_long (length into.old == 2 * length from.now) (bytes_spelled from.now (length into.old)) into.old }
 {
     if is_double(into.len(), from.len()) {
         to_hex(into, from);
@@ -51,7 +51,7 @@ fn spell(into: &mut [u8], from: &[u8])
 #[tactic(auto, unfolding(crate::specs::Compute::string_given))]
 fn unspell(into: &mut [u8], from: &[u8]) -> Option<Exception>
     ensures signal { result ≡ failed (string_given Op.Cvtch into.old from.now [] []) }
-    ensures bytes { into.new ≡ bytes_behind into.old (string_given Op.Cvtch into.old from.now [] []) }
+    ensures bytes { into.new ≡ bytes_after into.old (string_given Op.Cvtch into.old from.now [] []) }
 {
     if !is_double(from.len(), into.len()) {
         return None;
@@ -83,7 +83,7 @@ fn invert(into: &mut [u8], a: &[u8])
 #[tactic(auto, unfolding(crate::specs::Compute::string_given))]
 pub fn write_string(op: Op, into: &mut [u8], a: &[u8], b: &[u8], c: &[u8]) -> Option<Exception>
     ensures signal { result ≡ failed (string_given op into.old a.now b.now c.now) }
-    ensures bytes { into.new ≡ bytes_behind into.old (string_given op into.old a.now b.now c.now) }
+    ensures bytes { into.new ≡ bytes_after into.old (string_given op into.old a.now b.now c.now) }
 {
     match op {
         Op::Cpybla => copy_left(into, a),

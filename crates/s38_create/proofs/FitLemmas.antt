@@ -8,7 +8,7 @@ use Rattle.std.proofs.lemmas.List.Folds.{list_all-map}
 use Rattle.s38_base.specs.declared.op.Op.{Op}
 use Rattle.s38_code.specs.Operations.{classes, made_kind, operand_rule}
 use Rattle.s38_base.specs.Exceptions as exceptions
-use Rattle.s38_words.specs.ProgramLine.{ActLine, act_of, rounds_right}
+use Rattle.s38_words.specs.ProgramLine.{ActLine, act_line_of, rounds_right}
 use Rattle.s38_code.specs.declared.program.CreateFault.{CreateFault}
 use Rattle.s38_code.specs.declared.program.CreateFault.TheVariants.{Bad}
 use Rattle.s38_code.specs.declared.program.Instruction.{Instruction}
@@ -17,26 +17,26 @@ use Rattle.s38_code.specs.declared.program.Row.{Row}
 use Rattle.s38_odt.proofs.LabelLemmas.{instruction_count-label, instruction_count-more}
 use Rattle.s38_create.proofs.Parts.{and-both, if-some, no-cause}
 use Rattle.s38_create.proofs.ParsedLemmas.{parsed_operand-good, parsed_from-all}
-use Rattle.s38_create.specs.Instruction.{by_act, by_parsed, cause_of, checked, code_from, instruction_from, instruction_of, is_taken, parsed_of, result_and_then, takes_relation, unless}
+use Rattle.s38_create.specs.Instruction.{by_act, by_parsed, cause_of, checked, code_from, instruction_from, instruction_made, parsed_of, result_and_then, round_is_taken, takes_relation, unless}
 use Rattle.s38_odt.specs.Labels.{instruction_count, is_label}
 use Rattle.s38_create.specs.Parsed.{arg_of, is_declared, is_placed, parsed_from}
 use Rattle.s38_odt.specs.Suits.{all_suit}
-use Rattle.s38_odt.specs.OperandRules.{digits_needed, fits, is_of_kind, keeps_rule}
+use Rattle.s38_odt.specs.OperandRules.{digits_needed, keeps_rule, names_kind, operands_fit}
 use Rattle.s38_create.specs.WellFormed.{InstructionFits, WellFormed}
 use Rattle.s38_odt.specs.Suited.{AreSuited, IsSuited, is_filled, lands_in}
-use Rattle.s38_create.specs.Created.{program}
+use Rattle.s38_create.specs.Created.{program_of_parts}
 use Rattle.s38_words.specs.declared.program_lines.Head.{Head}
 use Rattle.s38_odt.specs.Formed.{AreFormed}
 use Rattle.s38_create.specs.declared.parsed.ParsedOperand.{ParsedOperand}
 
--- where no cause stands against it, the operands are the row's
+-- where no cause is found against it, the operands are the row's
 cause_of-none : (rows : List Row) (i : Instruction) (declared placed : Bool) → cause_of rows i declared placed ≡ None →
-    (fits rows i.op i.args ≡ true) × (takes_relation i.op i.args ≡ true) × (digits_needed rows i.op i.args ≤ 38)
+    (operands_fit rows i.op i.args ≡ true) × (takes_relation i.op i.args ≡ true) × (digits_needed rows i.op i.args ≤ 38)
 unfolding cause_of
 cause_of-none rows i declared placed h =
     let named = no-cause declared exceptions.name_missing _ h in
-    let fitting = no-cause (fits rows i.op i.args && takes_relation i.op i.args) exceptions.attributes_invalid _ named.1 in
-    let both = and-both (fits rows i.op i.args) _ fitting.0 in
+    let fitting = no-cause (operands_fit rows i.op i.args && takes_relation i.op i.args) exceptions.attributes_invalid _ named.1 in
+    let both = and-both (operands_fit rows i.op i.args) _ fitting.0 in
     let few = no-cause (nat_le (digits_needed rows i.op i.args) 38) exceptions.digits_exceeded _ fitting.1 in
     (both.0, both.1, leb-true (digits_needed rows i.op i.args) 38 few.0)
 
@@ -44,12 +44,12 @@ unless-ok : (cause : Option ℕ) (number : ℕ) (i made : Instruction) → unles
 unless-ok None number i made h = (refl, cc)
 unless-ok (Some id) number i made h = absurd (let e : Err (Bad id number) ≡ Ok made = h in cc)
 
-fits-parts : (rows : List Row) (op : Op) (args : List _) → fits rows op args ≡ true →
-    (all_suit rows (classes op) args ≡ true) × (list_all (is_of_kind (made_kind op)) args ≡ true) × (keeps_rule rows (operand_rule op) args ≡ true)
-unfolding fits
+fits-parts : (rows : List Row) (op : Op) (args : List _) → operands_fit rows op args ≡ true →
+    (all_suit rows (classes op) args ≡ true) × (list_all (names_kind (made_kind op)) args ≡ true) × (keeps_rule rows (operand_rule op) args ≡ true)
+unfolding operands_fit
 fits-parts rows op args h =
     let first = and-both (all_suit rows (classes op) args) _ h in
-    let second = and-both (list_all (is_of_kind (made_kind op)) args) _ first.1 in
+    let second = and-both (list_all (names_kind (made_kind op)) args) _ first.1 in
     (first.0, second.0, second.1)
 
 checked-fits : (rows : List Row) (code : List (List ℕ)) (number : ℕ) (op : Op) (round : Bool) (parsed : List ParsedOperand) (made : Instruction) →
@@ -78,7 +78,7 @@ by_parsed-fits : (rows : List Row) (code : List (List ℕ)) (number : ℕ) (act 
     parsed_of rows code act ≡ o → by_parsed rows number act.op act.round o ≡ Ok made → InstructionFits rows (instruction_count code) made
 by_parsed-fits rows code number act made None is h = absurd (let e : Err (Bad exceptions.operands_invalid number) ≡ Ok made = h in cc)
 by_parsed-fits rows code number act made (Some parsed) is h =
-    let taken = if-some (is_taken act) (parsed_from rows code [] (classes act.op) act.operands) parsed is in
+    let taken = if-some (round_is_taken act) (parsed_from rows code [] (classes act.op) act.operands) parsed is in
     checked-fits rows code number act.op act.round parsed made taken.0
     (parsed_from-all (λ s. is_filled (arg_of s)) rows code [] (classes act.op) act.operands parsed
     (λ class word operand found. (parsed_operand-good rows code class word operand found).filled) refl taken.1)
@@ -92,9 +92,9 @@ by_act-fits rows code number made None h = absurd (let e : Err (Bad exceptions.o
 by_act-fits rows code number made (Some act) h = by_parsed-fits rows code number act made (parsed_of rows code act) refl h
 
 instruction_of-fits : (rows : List Row) (code : List (List ℕ)) (number : ℕ) (line : List ℕ) (made : Instruction) →
-    instruction_of rows code number line ≡ Ok made → InstructionFits rows (instruction_count code) made
-unfolding instruction_of
-instruction_of-fits rows code number line made h = by_act-fits rows code number made (act_of line) h
+    instruction_made rows code number line ≡ Ok made → InstructionFits rows (instruction_count code) made
+unfolding instruction_made
+instruction_of-fits rows code number line made h = by_act-fits rows code number made (act_line_of line) h
 
 -- ---- code
 
@@ -108,7 +108,7 @@ AreFit rows code made = All (InstructionFits rows (instruction_count code)) made
 code_from-step : (rows : List Row) (code : List (List ℕ)) (made : List Instruction) (line : List ℕ) (lines : List (List ℕ)) (out : List Instruction) →
     ((made : List Instruction) → AreFit rows code made → code_from rows code made lines ≡ Ok out → AreFit rows code out × (length out ≡ length made + instruction_count lines)) →
     AreFit rows code made → (b : Bool) → is_label line ≡ b →
-    cond b (code_from rows code made lines) (result_and_then (λ i. code_from rows code (made ++ i ∷ []) lines) (instruction_of rows code (length made + 1) line)) ≡ Ok out →
+    cond b (code_from rows code made lines) (result_and_then (λ i. code_from rows code (made ++ i ∷ []) lines) (instruction_made rows code (length made + 1) line)) ≡ Ok out →
     AreFit rows code out × (length out ≡ length made + instruction_count (line ∷ lines))
 code_from-step rows code made line lines out more fit true is h =
     let later = more made fit h in
@@ -116,7 +116,7 @@ code_from-step rows code made line lines out more fit true is h =
     let long : length out ≡ length made + instruction_count lines = later.1 in
     (later.0, omega arith)
 code_from-step rows code made line lines out more fit false is h =
-    let step = and_then-ok (λ i. code_from rows code (made ++ i ∷ []) lines) (instruction_of rows code (length made + 1) line) out h in
+    let step = and_then-ok (λ i. code_from rows code (made ++ i ∷ []) lines) (instruction_made rows code (length made + 1) line) out h in
     let one : AreFit rows code (step.0 ∷ []) = All-cons (InstructionFits rows (instruction_count code)) step.0 []
     (instruction_of-fits rows code (length made + 1) line step.0 step.1) (All-nil (InstructionFits rows (instruction_count code))) in
     let later = more (made ++ step.0 ∷ []) (All-append (InstructionFits rows (instruction_count code)) made (step.0 ∷ []) fit one) step.2 in
@@ -137,7 +137,7 @@ code_from-fits rows code made (line ∷ lines) out fit h =
 -- a program of such declarations and of this code is well formed
 pub program-well_formed : (template : List (List ℕ)) (head : Head) (rows : List Row) (code : List (List ℕ)) (made : List Instruction) →
     length rows ≤ 1024 → AreFormed (instruction_count code) rows → instruction_count code ≤ 16384 → code_from rows code [] code ≡ Ok made →
-    WellFormed (program template head rows made)
+    WellFormed (program_of_parts template head rows made)
 program-well_formed template head rows code made few formed small h =
     let fit = code_from-fits rows code [] code made (All-nil (InstructionFits rows (instruction_count code))) h in
     let long : length made ≡ instruction_count code = fit.1 ∙ omega arith in
@@ -146,8 +146,8 @@ program-well_formed template head rows code made few formed small h =
     record { few_rows = few; formed = subst Q (sym long) formed; few_instructions = omega arith; fits = subst P (sym long) fit.0 }
 
 -- its instructions suit its declarations
-pub well_formed_suited : (program : Program) → WellFormed program → AreSuited program.rows program.code
-well_formed_suited program formed = record {
+pub well_formed_suited : (program_of_parts : Program) → WellFormed program_of_parts → AreSuited program_of_parts.rows program_of_parts.code
+well_formed_suited program_of_parts formed = record {
   formed = formed.formed;
-  each = All-weaker (InstructionFits program.rows (length program.code)) (IsSuited program.rows (length program.code)) (λ i fits. fits.suited) program.code formed.fits;
+  each = All-weaker (InstructionFits program_of_parts.rows (length program_of_parts.code)) (IsSuited program_of_parts.rows (length program_of_parts.code)) (λ i operands_fit. operands_fit.suited) program_of_parts.code formed.fits;
 }

@@ -5,10 +5,10 @@ use Rattle.std.specs.Bool.{nat_le}
 use Rattle.std.specs.Option.{option_map, option_or}
 use Rattle.std.proofs.lemmas.List.Folds.{list_all-append}
 use Rattle.std.proofs.lemmas.List.FromFn.{length-map-range_with_len}
-use Rattle.s38_base.specs.Scalar.{image_of, packed_byte}
+use Rattle.s38_base.specs.Scalar.{packed_byte, scalar_image}
 use Rattle.s38_base.specs.declared.attr.Attr.TheVariants.{Chars}
 use Rattle.s38_words.specs.Literal.{number_literal, packed_number, text_from, text_literal, text_of}
-use Rattle.s38_words.specs.Number.{number_of}
+use Rattle.s38_words.specs.Number.{number_spelled}
 use Rattle.s38_code.specs.declared.class.Class.{Class}
 use Rattle.s38_code.specs.declared.class.Class.TheVariants.{NumberSource, NumberReceiver, BytesSource, BytesOrNone, BytesReceiver, PointerSource, PointerReceiver, CellsSource, CellsReceiver, Context, ContextOrList, PointerOrNone, UserOrPublic, Handler, Argument, Constant, Keyword}
 use Rattle.s38_code.specs.declared.class.Constant.{Constant as ConstantClass}
@@ -18,19 +18,19 @@ use Rattle.s38_code.specs.declared.class.Keyword.TheVariants as keywords
 use Rattle.s38_code.specs.declared.program.Arg.{Arg}
 use Rattle.s38_code.specs.declared.program.Arg.TheVariants as args
 use Rattle.s38_code.specs.declared.program.Row.{Row}
-use Rattle.s38_words.specs.Attribute.{attr_of, attrs_of}
-use Rattle.s38_words.specs.Name.{code_of, declared_name, id_of}
-use Rattle.s38_words.specs.Number.{natural_of, whole_of}
-use Rattle.s38_words.specs.Row.{lock_state_of, order_of, pointer_kind_of, relation_of, rights_of, seek_of, specials_of, switch_of, wait_of}
-use Rattle.s38_words.specs.Text.{before, behind, is_word}
+use Rattle.s38_words.specs.Attribute.{attr_spelled, attrs_of}
+use Rattle.s38_words.specs.Name.{declared_name, exception_code_of, id_spelled}
+use Rattle.s38_words.specs.Number.{natural_of, whole_spelled}
+use Rattle.s38_words.specs.Row.{lock_state_of, order_spelled, pointer_kind_of, relation_spelled, rights_spelled, seek_spelled, specials_of, switch_of, wait_of}
+use Rattle.s38_words.specs.Text.{after_byte, before, is_word}
 use Rattle.std.specs.Prelude.{codes}
 use Rattle.s38_odt.specs.Table.{place_in}
 use Rattle.s38_odt.proofs.LabelLemmas.{label_in-bound}
 use Rattle.s38_create.proofs.Parts.{if-some, and_then-some, map-some, or-some}
 use Rattle.s38_odt.specs.Labels.{instruction_count, label_in}
-use Rattle.s38_create.specs.Parsed.{arg_of, parsed_bytes, parsed_constant, given, parsed_item, parsed_keyword, parsed_label, parsed_number, power_of, parsed_operand, parsed_from, size_arg, parsed_star, parsed_word}
+use Rattle.s38_create.specs.Parsed.{arg_of, parsed_argument, parsed_bytes, parsed_constant, parsed_from, parsed_item, parsed_keyword, parsed_label, parsed_number, parsed_operand, parsed_star, parsed_word, power_bounded, size_arg}
 use Rattle.s38_odt.specs.Suited.{is_filled, lands_in}
-use Rattle.s38_odt.specs.Suits.{is_argument}
+use Rattle.s38_odt.specs.Suits.{class_is_argument}
 use Rattle.s38_create.specs.declared.parsed.ParsedOperand.{ParsedOperand}
 use Rattle.s38_create.specs.declared.parsed.ParsedOperand.TheVariants as parsed_as
 
@@ -79,9 +79,9 @@ star-good count star arg word good operand h =
 -- ---- literals
 
 packed-good : (count : ℕ) (text : List ℕ) (arg : Arg) → number_literal text ≡ Some arg → IsGood count arg
-unfolding number_literal image_of
+unfolding number_literal scalar_image
 packed-good count text arg h =
-    let made = map-some packed_number (number_of text) arg h in
+    let made = map-some packed_number (number_spelled text) arg h in
     let P : Arg → Type 0 = λ a. IsGood count a in
     subst P made.2 (record {
       filled = eq-eqb _ _ (length-map-range_with_len (packed_byte (made.0.digits / 2) made.0.units) 0 (made.0.digits / 2 + 1));
@@ -97,16 +97,16 @@ text-good count text arg h =
     let P : Arg → Type 0 = λ a. IsGood count a in
     subst P same (record { filled = eq-eqb (length made.0) (length made.0) refl; lands = refl })
 
-given-good : (count : ℕ) (o : Option Arg) → ((arg : Arg) → o ≡ Some arg → IsGood count arg) → Good count (given o)
+given-good : (count : ℕ) (o : Option Arg) → ((arg : Arg) → o ≡ Some arg → IsGood count arg) → Good count (parsed_argument o)
 given-good count o each = map-good count (λ arg. parsed_as.Given arg) o each
 
 number-good : (count : ℕ) (rows : List Row) (word : List ℕ) → Good count (parsed_number rows word)
 number-good count rows word =
-    or-good count (parsed_item rows word) (given (number_literal word)) (item-good count rows word) (given-good count (number_literal word) (packed-good count word))
+    or-good count (parsed_item rows word) (parsed_argument (number_literal word)) (item-good count rows word) (given-good count (number_literal word) (packed-good count word))
 
 bytes-good : (count : ℕ) (rows : List Row) (word : List ℕ) → Good count (parsed_bytes rows word)
 bytes-good count rows word =
-    or-good count (parsed_item rows word) (given (text_literal word)) (item-good count rows word) (given-good count (text_literal word) (text-good count word))
+    or-good count (parsed_item rows word) (parsed_argument (text_literal word)) (item-good count rows word) (given-good count (text_literal word) (text-good count word))
 
 -- ---- words
 
@@ -121,26 +121,26 @@ star-or-good count rows star arg word good =
 
 constant-good : (code : List (List ℕ)) (constant : ConstantClass) (word : List ℕ) → Good (instruction_count code) (parsed_constant code constant word)
 unfolding parsed_constant
-constant-good code constants.Identification word = map-good (instruction_count code) (λ id. parsed_as.Given (args.Ident id)) (id_of word) (λ id _. record { filled = refl; lands = refl })
+constant-good code constants.Identification word = map-good (instruction_count code) (λ id. parsed_as.Given (args.Ident id)) (id_spelled word) (λ id _. record { filled = refl; lands = refl })
 constant-good code constants.Label word = label-good code word
 constant-good code constants.Whole word = map-good (instruction_count code) (λ n. parsed_as.Given (size_arg n)) (natural_of word) (λ n _. record { filled = refl; lands = refl })
-constant-good code constants.Power word = map-good (instruction_count code) (λ z. parsed_as.Given (args.Whole (power_of z))) (whole_of word) (λ z _. record { filled = refl; lands = refl })
-constant-good code constants.Attribute word = map-good (instruction_count code) (λ attr. parsed_as.Given (args.Attrs (attr ∷ []))) (attr_of word) (λ attr _. record { filled = refl; lands = refl })
+constant-good code constants.Power word = map-good (instruction_count code) (λ z. parsed_as.Given (args.Whole (power_bounded z))) (whole_spelled word) (λ z _. record { filled = refl; lands = refl })
+constant-good code constants.Attribute word = map-good (instruction_count code) (λ attr. parsed_as.Given (args.Attrs (attr ∷ []))) (attr_spelled word) (λ attr _. record { filled = refl; lands = refl })
 constant-good code constants.Attributes word = map-good (instruction_count code) (λ attrs. parsed_as.Given (args.Attrs attrs)) (attrs_of word) (λ attrs _. record { filled = refl; lands = refl })
-constant-good code constants.ExceptionCode word = word-good (instruction_count code) (code_of word)
+constant-good code constants.ExceptionCode word = word-good (instruction_count code) (exception_code_of word)
 constant-good code constants.TemplateName word = map-good (instruction_count code) (λ name. parsed_as.Given (args.Text name)) (declared_name word) (λ name _. record { filled = refl; lands = refl })
 constant-good code constants.JobName word = map-good (instruction_count code) (λ name. parsed_as.Given (args.Text name)) (declared_name word) (λ name _. record { filled = refl; lands = refl })
 
 keyword-good : (count : ℕ) (keyword : KeywordClass) (word : List ℕ) → Good count (parsed_keyword keyword word)
 unfolding parsed_keyword
-keyword-good count keywords.Rights word = word-good count (rights_of word)
+keyword-good count keywords.Rights word = word-good count (rights_spelled word)
 keyword-good count keywords.Specials word = word-good count (specials_of word)
 keyword-good count keywords.LockState word = word-good count (lock_state_of word)
 keyword-good count keywords.Wait word = word-good count (wait_of word)
-keyword-good count keywords.Relation word = word-good count (relation_of word)
-keyword-good count keywords.Comparison word = word-good count (relation_of word)
-keyword-good count keywords.Order word = word-good count (order_of word)
-keyword-good count keywords.Seek word = word-good count (seek_of word)
+keyword-good count keywords.Relation word = word-good count (relation_spelled word)
+keyword-good count keywords.Comparison word = word-good count (relation_spelled word)
+keyword-good count keywords.Order word = word-good count (order_spelled word)
+keyword-good count keywords.Seek word = word-good count (seek_spelled word)
 keyword-good count keywords.PointerKind word = word-good count (pointer_kind_of word)
 keyword-good count keywords.Switch word = word-good count (switch_of word)
 
@@ -181,8 +181,8 @@ parsed_from-step : (p : ParsedOperand → Bool) (rows : List Row) (code : List (
     ((parsed : List ParsedOperand) (text : Option (List ℕ)) → list_all p parsed ≡ true → parsed_from rows code parsed later text ≡ Some out → list_all p out ≡ true) →
     list_all p parsed ≡ true → parsed_from rows code parsed (class ∷ later) (Some text) ≡ Some out → list_all p out ≡ true
 parsed_from-step p rows code parsed class later text out each more all h =
-    let made = and_then-some (λ operand. parsed_from rows code (parsed ++ operand ∷ []) later (behind 44 text)) (parsed_operand rows code class (before 44 text)) out h in
-    more (parsed ++ made.0 ∷ []) (behind 44 text) (all-one p parsed made.0 all (each made.0 made.1)) made.2
+    let made = and_then-some (λ operand. parsed_from rows code (parsed ++ operand ∷ []) later (after_byte 44 text)) (parsed_operand rows code class (before 44 text)) out h in
+    more (parsed ++ made.0 ∷ []) (after_byte 44 text) (all-one p parsed made.0 all (each made.0 made.1)) made.2
 
 pub parsed_from-all : (p : ParsedOperand → Bool) (rows : List Row) (code : List (List ℕ)) (parsed : List ParsedOperand) (later : List Class) (text : Option (List ℕ)) (out : List ParsedOperand) →
     ((class : Class) (word : List ℕ) (operand : ParsedOperand) → parsed_operand rows code class word ≡ Some operand → p operand ≡ true) →
@@ -193,7 +193,7 @@ parsed_from-all p rows code parsed [] None out each all h =
     subst P same all
 parsed_from-all p rows code parsed [] (Some text) out each all h = absurd (let e : None ≡ Some out = h in cc)
 parsed_from-all p rows code parsed (class ∷ later) None out each all h =
-    let parts = if-some (is_argument class) (Some parsed) out h in
+    let parts = if-some (class_is_argument class) (Some parsed) out h in
     let same : parsed ≡ out = (let e = parts.1 in cc) in
     let P : List ParsedOperand → Type 0 = λ xs. list_all p xs ≡ true in
     subst P same all

@@ -7,8 +7,8 @@ use Rattle.std.proofs.lemmas.List.Folds.{list_all-append}
 use Rattle.s38_base.specs.declared.op.Op.{Op}
 use Rattle.s38_code.specs.declared.class.Class.{Class}
 use Rattle.s38_code.specs.declared.program.Row.{Row}
-use Rattle.s38_words.specs.Text.{before, behind}
-use Rattle.s38_odt.specs.Suits.{is_argument}
+use Rattle.s38_words.specs.Text.{after_byte, before}
+use Rattle.s38_odt.specs.Suits.{class_is_argument}
 use Rattle.s38_create.specs.Instruction.{by_parsed}
 use Rattle.s38_create.specs.Parsed.{arg_of, is_declared, is_placed, parsed_from, parsed_operand}
 use Rattle.s38_create.specs.Said.{by_said, said_from, said_of, with_operand}
@@ -45,9 +45,9 @@ pub said_from_map : (rows : List Row) (code : List (List ℕ)) (parsed : List Pa
     option_map said_of (parsed_from rows code parsed classes text) ≡ said_from rows code (said_of parsed) classes text
 said_from_map rows code parsed [] None = refl
 said_from_map rows code parsed [] (Some text) = refl
-said_from_map rows code parsed (class ∷ classes) None = if_map (is_argument class) parsed
+said_from_map rows code parsed (class ∷ classes) None = if_map (class_is_argument class) parsed
 said_from_map rows code parsed (class ∷ classes) (Some text) =
-    word_map rows code parsed classes (behind 44 text) (parsed_operand rows code class (before 44 text)) (λ parsed. said_from_map rows code parsed classes (behind 44 text))
+    word_map rows code parsed classes (after_byte 44 text) (parsed_operand rows code class (before 44 text)) (λ parsed. said_from_map rows code parsed classes (after_byte 44 text))
 
 -- ---- the instruction
 

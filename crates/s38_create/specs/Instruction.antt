@@ -10,23 +10,23 @@ use Rattle.s38_code.specs.declared.program.Instruction.{Instruction}
 use Rattle.s38_code.specs.declared.program.Row.{Row}
 use Rattle.s38_odt.specs.Labels.{is_label}
 use Rattle.s38_create.specs.Parsed.{arg_of, is_declared, is_placed, parsed_from}
-use Rattle.s38_odt.specs.OperandRules.{digits_needed, fits, word_at}
+use Rattle.s38_odt.specs.OperandRules.{argument_word_at, digits_needed, operands_fit}
 use Rattle.s38_create.specs.declared.parsed.ParsedOperand.{ParsedOperand}
 use Rattle.s38_base.specs.Exceptions as exceptions
 use Rattle.s38_base.specs.Relations.{relation_word}
 use Rattle.s38_base.specs.declared.op.Op.TheVariants.{Deq}
 use Rattle.s38_base.specs.declared.words.Relation.TheVariants.{Any}
-use Rattle.s38_words.specs.ProgramLine.{ActLine, act_of, rounds_right}
+use Rattle.s38_words.specs.ProgramLine.{ActLine, act_line_of, rounds_right}
 
 -- ---- an instruction of words that its row may have
 
--- `(R)` stands where it may alone
-abbrev pub is_taken : ActLine → Bool
-is_taken act = rounds_right act.round act.op
+-- `(R)` is only where it may be
+abbrev pub round_is_taken : ActLine → Bool
+round_is_taken act = rounds_right act.round act.op
 
 -- the parsed operands of a line, where it has those of the row
 abbrev pub parsed_of : List Row → List (List ℕ) → ActLine → Option (List ParsedOperand)
-parsed_of rows code act = if is_taken act then parsed_from rows code [] (classes act.op) act.operands else None
+parsed_of rows code act = if round_is_taken act then parsed_from rows code [] (classes act.op) act.operands else None
 
 abbrev pub instruction_from : Op → Bool → List ParsedOperand → Instruction
 instruction_from op round parsed = record { op = op; round = round; args = map arg_of parsed }
@@ -35,7 +35,7 @@ instruction_from op round parsed = record { op = op; round = round; args = map a
 
 -- a message is not asked for by its place in the order: DEQ has neither FIRST nor LAST
 unfoldable pub takes_relation : Op → List Arg → Bool
-takes_relation Deq args = nat_le (word_at args 2) (relation_word Any)
+takes_relation Deq args = nat_le (argument_word_at args 2) (relation_word Any)
 takes_relation op args = true
 
 -- ---- causes
@@ -45,7 +45,7 @@ takes_relation op args = true
 unfoldable pub cause_of : List Row → Instruction → Bool → Bool → Option ℕ
 cause_of rows i declared placed =
     if not declared then Some exceptions.name_missing
-    else (if not (fits rows i.op i.args && takes_relation i.op i.args) then Some exceptions.attributes_invalid
+    else (if not (operands_fit rows i.op i.args && takes_relation i.op i.args) then Some exceptions.attributes_invalid
     else (if not (nat_le (digits_needed rows i.op i.args) 38) then Some exceptions.digits_exceeded
     else (if not placed then Some exceptions.label_missing else None)))
 
@@ -67,8 +67,8 @@ by_act rows code number None = Err (Bad exceptions.operands_invalid number)
 by_act rows code number (Some act) = by_parsed rows number act.op act.round (parsed_of rows code act)
 
 -- what a line makes as the instruction of a number, counted from 1
-unfoldable pub instruction_of : List Row → List (List ℕ) → ℕ → List ℕ → Result Instruction CreateFault
-instruction_of rows code number line = by_act rows code number (act_of line)
+unfoldable pub instruction_made : List Row → List (List ℕ) → ℕ → List ℕ → Result Instruction CreateFault
+instruction_made rows code number line = by_act rows code number (act_line_of line)
 
 -- ---- code
 
@@ -82,4 +82,4 @@ code_from rows code made [] = Ok made
 code_from rows code made (line ∷ lines) =
     if is_label line
     then code_from rows code made lines
-    else result_and_then (λ i. code_from rows code (made ++ i ∷ []) lines) (instruction_of rows code (length made + 1) line)
+    else result_and_then (λ i. code_from rows code (made ++ i ∷ []) lines) (instruction_made rows code (length made + 1) line)

@@ -11,8 +11,8 @@ use Rattle.s38_code.specs.declared.program.CreateFault.{CreateFault}
 use Rattle.s38_code.specs.declared.program.CreateFault.TheVariants.{Bad}
 use Rattle.s38_code.specs.declared.program.Instruction.{Instruction}
 use Rattle.s38_code.specs.declared.program.Row.{Row}
-use Rattle.s38_words.specs.Text.{before, behind}
-use Rattle.s38_odt.specs.Suits.{is_argument}
+use Rattle.s38_words.specs.Text.{after_byte, before}
+use Rattle.s38_odt.specs.Suits.{class_is_argument}
 use Rattle.s38_create.specs.Instruction.{cause_of, unless}
 use Rattle.s38_create.specs.Parsed.{arg_of, is_declared, is_placed, parsed_operand}
 use Rattle.s38_create.specs.declared.parsed.ParsedOperand.{ParsedOperand}
@@ -37,13 +37,13 @@ abbrev pub where_found : Bool → AllSaid → Option AllSaid
 where_found found said = if found then Some said else None
 
 -- what was said so far with what the words of the rest of the text say, parted by commas: one for each class,
--- arguments at the end aside, and no text behind the last
+-- arguments at the end aside, and no text after the last
 abbrev pub said_from : List Row → List (List ℕ) → AllSaid → List Class → Option (List ℕ) → Option AllSaid
 said_from rows code said [] None = Some said
 said_from rows code said [] (Some text) = None
-said_from rows code said (class ∷ classes) None = if is_argument class then Some said else None
+said_from rows code said (class ∷ classes) None = if class_is_argument class then Some said else None
 said_from rows code said (class ∷ classes) (Some text) =
-    option_and_then (λ more. said_from rows code more classes (behind 44 text)) (option_map (with_operand said) (parsed_operand rows code class (before 44 text)))
+    option_and_then (λ more. said_from rows code more classes (after_byte 44 text)) (option_map (with_operand said) (parsed_operand rows code class (before 44 text)))
 
 -- ---- the instruction of what is said
 

@@ -8,7 +8,7 @@ use Rattle.s38_code.specs.declared.program.Row.{Row}
 use Rattle.s38_create.specs.Instruction.{takes_relation}
 use Rattle.s38_words.specs.ProgramLine.{rounds_right}
 use Rattle.s38_odt.specs.Formed.{AreFormed}
-use Rattle.s38_odt.specs.OperandRules.{digits_needed, is_of_kind}
+use Rattle.s38_odt.specs.OperandRules.{digits_needed, names_kind}
 use Rattle.s38_odt.specs.Suited.{IsSuited}
 
 -- an instruction among so many, over these declarations
@@ -17,7 +17,7 @@ pub record InstructionFits (rows : List Row) (count : ℕ) (instruction : Instru
   -- its operands are of the classes of its row
   pub suited : IsSuited rows count instruction
   pub relation : IsTrue (takes_relation instruction.op instruction.args)
-  pub kinds : IsTrue (list_all (is_of_kind (made_kind instruction.op)) instruction.args)
+  pub kinds : IsTrue (list_all (names_kind (made_kind instruction.op)) instruction.args)
   pub digits : digits_needed rows instruction.op instruction.args ≤ 38
 
 pub record WellFormed (program : Program) : Type 0 where

@@ -1,5 +1,5 @@
 ghost use Rattle.std.specs.Prelude.{◌≡◌};
-ghost use Rattle.s38_odt.specs.Suits.{are_bytes, form_attr, is_number, is_pointer, item_attr, operand_attr, row_attr};
+ghost use Rattle.s38_odt.specs.OperandAttributes.{are_bytes, form_attr, is_attr_of_pointer, is_numeric_attr, item_attr, operand_attr, row_attr};
 
 use s38_base::Attr;
 use s38_code::{Arg, Form, Row};
@@ -47,7 +47,7 @@ pub fn operand_attr(rows: &[Row], arg: &Arg) -> Option<Attr>
 }
 
 pub fn is_number(attr: Option<Attr>) -> bool
-    ensures { result ≡ is_number attr }
+    ensures { result ≡ is_numeric_attr attr }
 {
     match attr {
         Some(attr) => attr.is_numeric(),
@@ -66,7 +66,7 @@ pub fn are_bytes(attr: Option<Attr>) -> bool
 }
 
 pub fn is_pointer(attr: Option<Attr>) -> bool
-    ensures { result ≡ is_pointer attr }
+    ensures { result ≡ is_attr_of_pointer attr }
 {
     match attr {
         Some(attr) => attr.is_pointer(),

@@ -2,7 +2,7 @@ ghost use Rattle.std.specs.Prelude.{◌≡◌, IfOk, Some, codes};
 ghost use Rattle.std.specs.Option.{option_map, option_or};
 ghost use Rattle.s38_code.specs.declared.program.Arg.TheVariants as args;
 ghost use Rattle.s38_odt.specs.Table.{place_in};
-ghost use Rattle.s38_create.specs.Parsed.{given, parsed_bytes, parsed_constant, parsed_item, parsed_keyword, parsed_number, parsed_operand, parsed_star, parsed_word};
+ghost use Rattle.s38_create.specs.Parsed.{parsed_argument, parsed_bytes, parsed_constant, parsed_item, parsed_keyword, parsed_number, parsed_operand, parsed_star, parsed_word};
 ghost use Rattle.s38_create.specs.Said.{where_found, with_operand};
 ghost use Rattle.s38_create.specs.declared.parsed.ParsedOperand.TheVariants as parsed_as;
 
@@ -41,7 +41,7 @@ fn say_item(scope: &Scope, word: &[u8], said: &mut Said) -> Result<bool, NoMemor
 
 /// An operand that needs no name, if there is one.
 fn say_given(arg: Option<Arg>, said: &mut Said) -> Result<bool, NoMemory>
-    ensures { IfOk result (λ found. where_found found said.new ≡ option_map (with_operand said.old) (given arg)) }
+    ensures { IfOk result (λ found. where_found found said.new ≡ option_map (with_operand said.old) (parsed_argument arg)) }
 {
     match arg {
         Some(arg) => {
@@ -74,7 +74,7 @@ fn say_bytes(alloc: Global, scope: &Scope, word: &[u8], said: &mut Said) -> Resu
     }
 }
 
-/// What a word with a star stands for, or an item.
+/// What a word with a star means, or an item.
 fn say_star_or_item(
     scope: &Scope,
     star: &[u8],

@@ -1,5 +1,5 @@
 ghost use Rattle.std.specs.Prelude.{◌≡◌, ◌⊎◌, ◌≤◌, ◌&&◌, length, nat_le, Ok, Err, IfOk, IfErr};
-ghost use Rattle.s38_create.specs.Created.{created, created_by, created_inner, with_rows};
+ghost use Rattle.s38_create.specs.Created.{created_by, created_inner, program_created, program_with_rows};
 ghost use Rattle.s38_create.specs.WellFormed.{WellFormed};
 ghost use Rattle.s38_odt.specs.Formed.{AreFormed};
 ghost use Rattle.s38_odt.specs.Labels.{instruction_count};
@@ -37,8 +37,8 @@ fn with_rows(
     requires formed { AreFormed (instruction_count scope.code) scope.table }
     requires code { instruction_count scope.code ≤ 16384 }
     ensures formed { IfOk result (λ program. WellFormed program) }
-    ensures created { IfOk result (λ program. with_rows template.now head scope.entry.code scope.entry.table ≡ Ok program) }
-    ensures bad { IfErr result (λ fault. (fault ≡ CreateFault.NoMemory) ⊎ (with_rows template.now head scope.entry.code scope.entry.table ≡ Err fault)) }
+    ensures created { IfOk result (λ program. program_with_rows template.now head scope.entry.code scope.entry.table ≡ Ok program) }
+    ensures bad { IfErr result (λ fault. (fault ≡ CreateFault.NoMemory) ⊎ (program_with_rows template.now head scope.entry.code scope.entry.table ≡ Err fault)) }
 {
     let code = instructions(alloc, &scope)?;
     let template = template.try_clone(alloc)?;
@@ -100,12 +100,12 @@ fn created_by(
 
 /// Makes a checked program of a template. `Bad` is the first bad declaration, or else the first bad
 /// instruction, with its cause. The instructions of a program suit its declarations.
-#[tactic(auto, using(crate::proofs::FitLemmas::well_formed_suited), unfolding(crate::specs::Created::created))]
+#[tactic(auto, using(crate::proofs::FitLemmas::well_formed_suited), unfolding(crate::specs::Created::program_created))]
 pub fn create(alloc: Global, template: &Template) -> Result<Program, CreateFault>
-    ensures created { IfOk result (λ program. created template.now ≡ Ok program) }
+    ensures created { IfOk result (λ program. program_created template.now ≡ Ok program) }
     ensures formed { IfOk result (λ program. WellFormed program) }
     ensures suited { IfOk result (λ program. AreSuited program.rows program.code) }
-    ensures bad { IfErr result (λ fault. (fault ≡ CreateFault.NoMemory) ⊎ (created template.now ≡ Err fault)) }
+    ensures bad { IfErr result (λ fault. (fault ≡ CreateFault.NoMemory) ⊎ (program_created template.now ≡ Err fault)) }
 {
     let lines = template.lines();
     if !is_ended(&lines) {
@@ -120,5 +120,5 @@ pub fn create(alloc: Global, template: &Template) -> Result<Program, CreateFault
 /// A template is refused at a place, and never for want of memory: what the definition answers is a program or
 /// `Bad`.
 pub fn refusals_have_a_place(template: &Template)
-    ensures { created template.now ≡ Err CreateFault.NoMemory → ⊥ }
+    ensures { program_created template.now ≡ Err CreateFault.NoMemory → ⊥ }
 {}

@@ -2,7 +2,7 @@ ghost use Rattle.std.specs.Prelude.{◌≡◌, ◌||◌, IsTrue, pos, unwrap_or,
 ghost use Rattle.s38_base.specs.declared.attr.Attr.TheVariants as attrs;
 ghost use Rattle.s38_code.specs.Operations.{classes};
 ghost use Rattle.s38_odt.specs.Suits.{all_suit};
-ghost use Rattle.s38_odt.specs.OperandRules.{digits_needed, fits, need_with, number_at, power_at, power_of};
+ghost use Rattle.s38_odt.specs.OperandRules.{argument_number_at, argument_power, digits_needed, need_with, operands_fit, power_at};
 ghost use Rattle.s38_decimal.specs.Need.{has_one, has_second};
 
 use crate::operand_rules::{attr_at, whole_at};
@@ -28,16 +28,16 @@ fn computes(op: Op) -> bool
     )
 }
 
-/// The attribute of the number at a place; what has none stands there as a pointer.
+/// The attribute of the number at a place; what has none counts as a pointer.
 fn number_at(rows: &[Row], args: &[Arg], k: usize) -> Attr
-    ensures { result ≡ number_at rows.now args.now k }
+    ensures { result ≡ argument_number_at rows.now args.now k }
 {
     attr_at(rows, args, k).unwrap_or(Attr::Pointer)
 }
 
 /// A power from -31 to 31, or 0 for every other number.
 fn power_of(number: i64) -> i8
-    ensures { result ≡ power_of number }
+    ensures { result ≡ argument_power number }
 {
     if number.unsigned_abs() <= 31 {
         number as i8
@@ -51,7 +51,7 @@ fn power_of(number: i64) -> i8
 #[tactic(auto, unfolding(s38_odt::specs::OperandRules::digits_needed))]
 fn computed_digits(rows: &[Row], op: Op, args: &[Arg]) -> u8
     requires computes { IsTrue (has_one op || has_second op) }
-    requires fits { IsTrue (fits rows.now op args.now) }
+    requires fits { IsTrue (operands_fit rows.now op args.now) }
     ensures { result ≡ digits_needed rows.now op args.now }
 {
     let power = power_of(whole_at(args, 2));
@@ -66,7 +66,7 @@ fn computed_digits(rows: &[Row], op: Op, args: &[Arg]) -> u8
 /// How many digits an instruction needs; none where it doesn't compute.
 #[tactic(auto, unfolding(s38_odt::specs::OperandRules::digits_needed))]
 pub fn digits_needed(rows: &[Row], op: Op, args: &[Arg]) -> u8
-    requires { IsTrue (fits rows.now op args.now) }
+    requires { IsTrue (operands_fit rows.now op args.now) }
     ensures { result ≡ digits_needed rows.now op args.now }
 {
     if computes(op) {

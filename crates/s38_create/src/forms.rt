@@ -1,6 +1,6 @@
 ghost use Rattle.std.specs.Prelude.{◌≡◌, unsigned_abs, nat_le, pos, if◌then◌else◌, IfOk};
-ghost use Rattle.s38_words.specs.Name.{code_of};
-ghost use Rattle.s38_create.specs.Parsed.{parsed_attribute, parsed_attributes, parsed_id, parsed_label, parsed_name, parsed_power, parsed_size, parsed_word, power_of};
+ghost use Rattle.s38_words.specs.Name.{exception_code_of};
+ghost use Rattle.s38_create.specs.Parsed.{parsed_attribute, parsed_attributes, parsed_id, parsed_label, parsed_name, parsed_power, parsed_size, parsed_word, power_bounded};
 
 use crate::parsed::ParsedOperand;
 use crate::scope::Scope;
@@ -24,7 +24,7 @@ pub fn parsed_label(scope: &Scope, word: &[u8]) -> Option<ParsedOperand>
 }
 
 pub fn parsed_code(word: &[u8]) -> Option<ParsedOperand>
-    ensures { result ≡ parsed_word (code_of word.now) }
+    ensures { result ≡ parsed_word (exception_code_of word.now) }
 {
     match exception_code(word) {
         Some(code) => Some(ParsedOperand::Given(Arg::Word(u32::from(code)))),
@@ -70,7 +70,7 @@ pub fn parsed_power(word: &[u8]) -> Option<ParsedOperand>
 
 /// A power of ten from -31 to 31, or 32 for every other.
 fn power_of(number: i128) -> i64
-    ensures { result ≡ power_of number }
+    ensures { result ≡ power_bounded number }
 {
     if number.unsigned_abs() <= 31 {
         number as i64

@@ -1,5 +1,5 @@
 ghost use Rattle.std.specs.Prelude.{◌≡◌, ◌≤◌, length};
-ghost use Rattle.s38_create.specs.Created.{declaration_count, is_declaration, is_ended};
+ghost use Rattle.s38_create.specs.Created.{declaration_count, is_declaration_line, is_ended};
 
 use s38_code::Lines;
 use s38_words::{is_declaration, is_word};
@@ -17,7 +17,7 @@ pub fn is_ended(lines: &Lines<'_>) -> bool
     }
 }
 
-/// How many lines stand before the first that is no declaration.
+/// How many lines come before the first that is no declaration.
 pub fn declaration_count(body: &Lines<'_>) -> usize
     ensures count { result ≡ declaration_count body.now }
     ensures bound { result ≤ length body.now }

@@ -1,6 +1,6 @@
 ghost use Rattle.std.specs.Prelude.{◌≡◌, ◌⊎◌, ◌+◌, ◌≤◌, Ok, Err, [], IfOk, IfErr};
 ghost use Rattle.std.specs.Option.{option_map};
-ghost use Rattle.s38_create.specs.Instruction.{code_from, instruction_of, is_taken, parsed_of};
+ghost use Rattle.s38_create.specs.Instruction.{code_from, instruction_made, parsed_of, round_is_taken};
 ghost use Rattle.s38_words.specs.Views.{act_in};
 ghost use Rattle.s38_odt.specs.Labels.{instruction_count};
 ghost use Rattle.s38_create.specs.Said.{checked_said, said_of};
@@ -15,9 +15,9 @@ use s38_odt::is_label;
 use s38_words::{InstructionLine, instruction, rounds_right};
 use std::alloc::Global;
 
-/// `(R)` stands in its line only where it may.
+/// `(R)` is in its line only where it may be.
 fn is_taken(act: InstructionLine<'_>) -> bool
-    ensures { result ≡ is_taken (act_in act.entry) }
+    ensures { result ≡ round_is_taken (act_in act.entry) }
 {
     rounds_right(act.round, act.op)
 }
@@ -52,15 +52,15 @@ fn checked(
 }
 
 /// What a line makes as the instruction of a number.
-#[tactic(auto, using(crate::proofs::SaidLemmas::by_said_map), unfolding(crate::specs::Instruction::instruction_of))]
+#[tactic(auto, using(crate::proofs::SaidLemmas::by_said_map), unfolding(crate::specs::Instruction::instruction_made))]
 fn instruction_of(
     alloc: Global,
     scope: &Scope,
     number: u32,
     line: &[u8],
 ) -> Result<Instruction, CreateFault>
-    ensures created { IfOk result (λ i. instruction_of scope.now.table scope.now.code number line.now ≡ Ok i) }
-    ensures bad { IfErr result (λ fault. (fault ≡ CreateFault.NoMemory) ⊎ (instruction_of scope.now.table scope.now.code number line.now ≡ Err fault)) }
+    ensures created { IfOk result (λ i. instruction_made scope.now.table scope.now.code number line.now ≡ Ok i) }
+    ensures bad { IfErr result (λ fault. (fault ≡ CreateFault.NoMemory) ⊎ (instruction_made scope.now.table scope.now.code number line.now ≡ Err fault)) }
 {
     let none = CreateFault::Bad {
         id: exceptions::OPERANDS_INVALID,

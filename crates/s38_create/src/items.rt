@@ -1,6 +1,7 @@
 ghost use Rattle.std.specs.Prelude.{◌≡◌};
 ghost use Rattle.std.specs.Option.{option_copied};
-ghost use Rattle.s38_odt.specs.Suits.{are_cells, can_be_passed, has_cells, is_handler, item_suits, row_of};
+ghost use Rattle.s38_odt.specs.Suits.{item_suits};
+ghost use Rattle.s38_odt.specs.OperandAttributes.{are_cells, can_be_passed, has_cells, is_handler, item_row};
 ghost use Rattle.s38_odt.specs.OperandRules.{is_two_local_bytes};
 ghost use Rattle.s38_odt.specs.Table.{is_parameter};
 
@@ -9,7 +10,7 @@ use s38_code::{Arg, Form, Row};
 
 /// The declaration of an item.
 fn row_of<'a>(rows: &'a [Row], arg: &Arg) -> Option<&'a Row>
-    ensures { option_copied result ≡ row_of rows.now arg.now }
+    ensures { option_copied result ≡ item_row rows.now arg.now }
 {
     match arg {
         Arg::Item(item) => rows.get(*item as usize),

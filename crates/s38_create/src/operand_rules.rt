@@ -1,7 +1,7 @@
 ghost use Rattle.std.specs.Prelude.{◌≡◌, drop, slice_get};
 ghost use Rattle.std.specs.List.{list_all};
 ghost use Rattle.s38_odt.specs.Suits.{item_suits};
-ghost use Rattle.s38_odt.specs.OperandRules.{at_suits, attr_at, attr_length, fits, has_length, is_from_one_to, is_key_length, is_of_kind, is_short_binary, keeps_rule, is_two_local_bytes, length_at, whole_at, word_at};
+ghost use Rattle.s38_odt.specs.OperandRules.{argument_attr_at, argument_length_at, argument_whole_at, argument_word_at, at_suits, attr_length, has_length, is_from_one_to, is_key_length, is_short_binary, is_two_local_bytes, keeps_rule, names_kind, operands_fit};
 ghost use Rattle.s38_odt.specs.Table.{is_parameter};
 
 use crate::attributes::operand_attr;
@@ -22,7 +22,7 @@ const LONGEST_MESSAGE: u32 = 4096;
 
 /// The attribute of the operand at a place from 0 on.
 pub fn attr_at(rows: &[Row], args: &[Arg], k: usize) -> Option<Attr>
-    ensures { result ≡ attr_at rows.now args.now k }
+    ensures { result ≡ argument_attr_at rows.now args.now k }
 {
     match args.get(k) {
         Some(arg) => operand_attr(rows, arg),
@@ -40,14 +40,14 @@ fn attr_length(attr: Option<Attr>) -> u16
 }
 
 fn length_at(rows: &[Row], args: &[Arg], k: usize) -> u16
-    ensures { result ≡ length_at rows.now args.now k }
+    ensures { result ≡ argument_length_at rows.now args.now k }
 {
     attr_length(attr_at(rows, args, k))
 }
 
 /// The number of the word at a place, and 0 for no word.
 pub fn word_at(args: &[Arg], k: usize) -> u32
-    ensures { result ≡ word_at args.now k }
+    ensures { result ≡ argument_word_at args.now k }
 {
     match args.get(k) {
         Some(Arg::Word(word)) => *word,
@@ -57,7 +57,7 @@ pub fn word_at(args: &[Arg], k: usize) -> u32
 
 /// The whole number at a place, and 0 for no whole number.
 pub fn whole_at(args: &[Arg], k: usize) -> i64
-    ensures { result ≡ whole_at args.now k }
+    ensures { result ≡ argument_whole_at args.now k }
 {
     match args.get(k) {
         Some(Arg::Whole(number)) => *number,
@@ -96,7 +96,7 @@ fn are_parameters(rows: &[Row], args: &[Arg]) -> bool
     args.iter().all(|arg| item_is_parameter(rows, arg))
 }
 
-/// The operands behind the first are parameters.
+/// The operands after the first are parameters.
 fn passes_parameters(rows: &[Row], args: &[Arg]) -> bool
     ensures { result ≡ list_all (item_suits is_parameter rows.now) (drop 1 args.now) }
 {
@@ -161,7 +161,7 @@ fn keeps_rule(rows: &[Row], rule: OperandRule, args: &[Arg]) -> bool
 
 /// In a row that makes an object, an identification is of that kind.
 fn is_of_kind(kind: Option<Kind>, arg: &Arg) -> bool
-    ensures { result ≡ is_of_kind kind arg.now }
+    ensures { result ≡ names_kind kind arg.now }
 {
     match kind {
         Some(kind) => match arg {
@@ -173,16 +173,16 @@ fn is_of_kind(kind: Option<Kind>, arg: &Arg) -> bool
 }
 
 fn are_of_kind(kind: Option<Kind>, args: &[Arg]) -> bool
-    ensures { result ≡ list_all (is_of_kind kind) args.now }
+    ensures { result ≡ list_all (names_kind kind) args.now }
 {
     args.iter().all(|arg| is_of_kind(kind, arg))
 }
 
 /// The operands are the row's: each suits its class, an identification is of the kind that is made, and they
 /// are tied as the row says.
-#[tactic(auto, unfolding(s38_odt::specs::OperandRules::fits))]
+#[tactic(auto, unfolding(s38_odt::specs::OperandRules::operands_fit))]
 pub fn fits(rows: &[Row], op: Op, args: &[Arg]) -> bool
-    ensures { result ≡ fits rows.now op args.now }
+    ensures { result ≡ operands_fit rows.now op args.now }
 {
     all_suit(rows, classes(op), args)
         && are_of_kind(made_kind(op), args)

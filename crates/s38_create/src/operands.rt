@@ -2,7 +2,7 @@ ghost use Rattle.std.specs.Prelude.{◌≡◌, [], IfOk};
 ghost use Rattle.std.specs.Option.{option_map};
 ghost use Rattle.s38_create.specs.Parsed.{parsed_from};
 ghost use Rattle.s38_create.specs.Said.{said_from, said_of};
-ghost use Rattle.s38_odt.specs.Suits.{is_argument};
+ghost use Rattle.s38_odt.specs.Suits.{class_is_argument};
 
 use crate::by_class::say;
 use crate::said::Said;
@@ -16,7 +16,7 @@ use std::alloc::Global;
 const FEW_ARGUMENTS: usize = 2;
 
 pub fn is_argument(class: Class) -> bool
-    ensures { result ≡ is_argument class }
+    ensures { result ≡ class_is_argument class }
 {
     matches!(class, Class::Argument)
 }

@@ -34,7 +34,7 @@ pub fn is_placed(operand: &ParsedOperand) -> bool
     }
 }
 
-/// The operand that is said; the first item or place stands for a name that stands for none.
+/// The operand that is said; the first item or place is taken for a name that has none.
 pub fn arg_of(operand: ParsedOperand) -> Arg
     ensures { result ≡ arg_of operand }
 {

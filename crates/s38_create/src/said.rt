@@ -9,7 +9,7 @@ use std::alloc::Global;
 use std::marker::Model;
 
 /// What the words of a line say at the places of operands, so far: the operands, where the first item or place
-/// stands for a name that stands for none; whether each name is declared, and whether each label is there.
+/// is taken for a name that has none; whether each name is declared, and whether each label is there.
 #[derive(Drop, Debug)]
 pub struct Said {
     args: Vec<Arg>,

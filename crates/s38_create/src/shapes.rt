@@ -1,6 +1,6 @@
 ghost use Rattle.std.specs.Prelude.{◌≡◌};
 ghost use Rattle.std.specs.List.{list_all};
-ghost use Rattle.s38_odt.specs.Suits.{are_fields, attrs_suit, have_room, is_id, is_jump, is_list, is_machine, is_name, is_natural_to, is_nothing, is_one_scalar, is_power, is_scalar, is_size, is_word, is_word_to};
+ghost use Rattle.s38_odt.specs.Suits.{are_field_attrs, attrs_suit, have_room, is_id, is_jump, is_list_word, is_machine_word, is_name_argument, is_natural_to, is_nothing, is_one_scalar, is_power, is_scalar, is_size, is_word_argument, is_word_to};
 
 use s38_base::Attr;
 use s38_code::Arg;
@@ -21,13 +21,13 @@ pub fn is_nothing(arg: &Arg) -> bool
 }
 
 pub fn is_machine(arg: &Arg) -> bool
-    ensures { result ≡ is_machine arg.now }
+    ensures { result ≡ is_machine_word arg.now }
 {
     matches!(arg, Arg::MachineContext)
 }
 
 pub fn is_list(arg: &Arg) -> bool
-    ensures { result ≡ is_list arg.now }
+    ensures { result ≡ is_list_word arg.now }
 {
     matches!(arg, Arg::ContextList)
 }
@@ -39,7 +39,7 @@ pub fn is_id(arg: &Arg) -> bool
 }
 
 pub fn is_name(arg: &Arg) -> bool
-    ensures { result ≡ is_name arg.now }
+    ensures { result ≡ is_name_argument arg.now }
 {
     matches!(arg, Arg::Text(_))
 }
@@ -51,7 +51,7 @@ pub fn is_jump(arg: &Arg) -> bool
 }
 
 pub fn is_word(arg: &Arg) -> bool
-    ensures { result ≡ is_word arg.now }
+    ensures { result ≡ is_word_argument arg.now }
 {
     matches!(arg, Arg::Word(_))
 }
@@ -118,7 +118,7 @@ fn are_scalars(attrs: &[Attr]) -> bool
 }
 
 fn are_fields(attrs: &[Attr]) -> bool
-    ensures { result ≡ are_fields attrs.now }
+    ensures { result ≡ are_field_attrs attrs.now }
 {
     1 <= attrs.len()
         && attrs.len() <= MOST_FIELDS
@@ -141,7 +141,7 @@ pub fn is_attribute(arg: &Arg) -> bool
 
 /// 1 to 256 scalars of 4,096 bytes at most.
 pub fn is_fields(arg: &Arg) -> bool
-    ensures { result ≡ attrs_suit are_fields arg.now }
+    ensures { result ≡ attrs_suit are_field_attrs arg.now }
 {
     match arg {
         Arg::Attrs(attrs) => are_fields(attrs.as_slice()),

@@ -68,7 +68,7 @@ fn suits(rows: &[Row], class: Class, arg: &Arg) -> bool
     }
 }
 
-/// Whether an operand stands for each class, each in its place; arguments at the end may be left out.
+/// Whether there is an operand for each class, each in its place; arguments at the end may be left out.
 pub fn all_suit(rows: &[Row], classes: &[Class], args: &[Arg]) -> bool
     ensures { result ≡ all_suit rows.now classes.now args.now }
 {

@@ -1,4 +1,4 @@
--- Room that is taken in a data space is nothing to the journals, and an entry that takes it stands as if it had taken
+-- Room that is taken in a data space is nothing to the journals, and an entry that takes it is there as if it had taken
 -- none; room that is given back was never taken.
 use Rattle.std.proofs.Common.{◌≡◌, ℕ, ◌+◌, ◌<◌, ◌==◌, Bool, true, false, cond, List, [], ◌∷◌, ap, arith, length, refl, subst, sym, ◌∙◌}
 use Rattle.std.proofs.lemmas.Bool.Decides.{nat_tests}
@@ -21,16 +21,18 @@ use Rattle.s38_rules.specs.declared.object.Body.{Body}
 use Rattle.s38_rules.specs.declared.object.Body.TheVariants as bodies
 use Rattle.s38_rules.specs.declared.object.Object.{Object}
 use Rattle.s38_rules.specs.declared.port.Port.{Port}
-use Rattle.s38_rules.specs.Changing.{are_units_full, change_entry, is_journal_full, is_unit_full, journal_rule, logged, logged_in, next_sequence, number_for, units_behind, with_change_logged}
-use Rattle.s38_rules.specs.DataSpaces.{with_inserted}
-use Rattle.s38_rules.specs.Held.{Held, object}
-use Rattle.s38_rules.specs.Journaling.{begins_unit, block_port_in, data_port, goes_to, is_journal, is_number, journal_behind, journal_for, journal_for_block, journal_named, open_behind, open_units}
-use Rattle.s38_rules.specs.Kept.{Mirrors}
-use Rattle.s38_rules.specs.State.{State}
+use Rattle.s38_rules.specs.families.Changing.{are_units_full, change_entry, is_journal_full, is_unit_full, journal_rule, logged, logged_in, next_sequence, number_for, units_after, with_change_logged}
+use Rattle.s38_rules.specs.families.EntryChanges.{with_inserted}
+use Rattle.s38_rules.specs.state.Held.{Held, object}
+use Rattle.s38_rules.specs.state.Journaling.{begins_unit, block_port_in, data_port, is_journal, is_that_number, journal_for, journal_for_block, journal_named, journal_of_port, open_after, open_units, unit_goes_to}
+use Rattle.s38_rules.specs.state.Kept.{Mirrors}
+use Rattle.s38_rules.specs.state.State.{State}
 use Rattle.s38_profiles.specs.ProfileMaps.{ProfileMaps}
 use Rattle.s38_units.proofs.KeptLaws.{journal_kept}
 use Rattle.s38_cursors.proofs.CursorLaws.{table_kept}
-use Rattle.s38_rules.specs.Parts.{block_part, data_lawful, data_part, journal_at, journal_part, no_journal, on_data, on_journal, on_table, over_body, over_object, over_table, part_at, part_in, port_part, table_at, table_in}
+use Rattle.s38_rules.specs.state.Parts.{block_part, data_part, journal_part, over_body, over_object, part_at, part_in, port_part}
+use Rattle.s38_rules.specs.state.PartsAt.{journal_at, no_journal, on_data, on_journal, on_table, over_table, table_at, table_in}
+use Rattle.s38_rules.specs.state.LawfulParts.{data_lawful}
 use Rattle.s38_rules.proofs.ChargeLaws.{object_changed}
 use Rattle.s38_rules.proofs.RuleLaws.{fails_none}
 use Rattle.s38_rules.proofs.PartLaws.{part_apart, part_left, part_twice, parts_commute}
@@ -62,23 +64,23 @@ named_same : (f : DataBody → DataBody) (h : Held) (n : ℕ) (port : Option Por
 named_same f h n None = refl
 named_same f h n (Some port) = rw (journal_same f h n port.journal.0) refl
 
-behind_same : (f : DataBody → DataBody) (h : Held) (n port : ℕ) → journal_behind (on_data h n f) port ≡ journal_behind h port
+behind_same : (f : DataBody → DataBody) (h : Held) (n port : ℕ) → journal_of_port (on_data h n f) port ≡ journal_of_port h port
 behind_same f h n port = ap (journal_named (on_data h n f)) (port_same f h n port) ∙ named_same f h n (part_at port_part h port)
 
 for_block_same : (f : DataBody → DataBody) (h : Held) (n block : ℕ) → journal_for_block (on_data h n f) block ≡ journal_for_block h block
 for_block_same f h n block =
-    ap (λ (b : Option Block). journal_behind (on_data h n f) (block_port_in b)) (block_same f h n block) ∙ behind_same f h n (block_port_in (part_at block_part h block))
+    ap (λ (b : Option Block). journal_of_port (on_data h n f) (block_port_in b)) (block_same f h n block) ∙ behind_same f h n (block_port_in (part_at block_part h block))
 
-goes_same : (f : DataBody → DataBody) (h : Held) (n journal : ℕ) (e : ℕ × CommitUnit) → goes_to (on_data h n f) journal e ≡ goes_to h journal e
-goes_same f h n journal e = ap (is_number journal) (for_block_same f h n e.0)
+goes_same : (f : DataBody → DataBody) (h : Held) (n journal : ℕ) (e : ℕ × CommitUnit) → unit_goes_to (on_data h n f) journal e ≡ unit_goes_to h journal e
+goes_same f h n journal e = ap (is_that_number journal) (for_block_same f h n e.0)
 
 filter_same : (p q : (ℕ × CommitUnit) → Bool) → ((e : ℕ × CommitUnit) → p e ≡ q e) → (units : UnitMap) → filter p units ≡ filter q units
 filter_same p q same [] = refl
 filter_same p q same (e ∷ units) = rw (same e, filter_same p q same units) refl
 
-pub open_same : (f : DataBody → DataBody) (h : Held) (n : ℕ) (units : UnitMap) (journal block : ℕ) → open_behind (on_data h n f) units journal block ≡ open_behind h units journal block
+pub open_same : (f : DataBody → DataBody) (h : Held) (n : ℕ) (units : UnitMap) (journal block : ℕ) → open_after (on_data h n f) units journal block ≡ open_after h units journal block
 open_same f h n units journal block =
-    ap (λ (us : UnitMap). length us + cond (begins_unit units block) 1 0) (filter_same (goes_to (on_data h n f) journal) (goes_to h journal) (goes_same f h n journal) units)
+    ap (λ (us : UnitMap). length us + cond (begins_unit units block) 1 0) (filter_same (unit_goes_to (on_data h n f) journal) (unit_goes_to h journal) (goes_same f h n journal) units)
 
 there_same : (f : DataBody → DataBody) (h : Held) (n journal : ℕ) → is_journal (on_data h n f) journal ≡ is_journal h journal
 there_same f h n journal = ap (λ (o : Option JournalList). is_some o) (journal_same f h n journal)
@@ -95,7 +97,7 @@ pub full_with_room : (h k : Held) (n : ℕ) (units : UnitMap) (journal block byt
     → is_journal_full h units journal block bytes ≡ false → is_journal_full k units journal block bytes ≡ false
 full_with_room h k n units journal block bytes same free =
     ap (λ (x : Held). is_journal_full x units journal block bytes) same
-    ∙ ap (λ (x : JournalList). is_some (room_refusal x bytes (open_behind (with_room h n) units journal block))) (at_same (over_table roomy) h n journal)
+    ∙ ap (λ (x : JournalList). is_some (room_refusal x bytes (open_after (with_room h n) units journal block))) (at_same (over_table roomy) h n journal)
     ∙ ap (λ (count : ℕ). is_some (room_refusal (journal_at h journal) bytes count)) (open_same (over_table roomy) h n units journal block)
     ∙ free
 
@@ -111,11 +113,11 @@ pub logged_with_room : (h k : Held) (n : ℕ) (units : UnitMap) (p block journal
     → logged_by k units p block journal change ≡ logged_by h units p block journal change
 logged_with_room h k n units p block journal change same =
     ap (λ (count : ℕ). with_change_logged (journal_bytes change) count (change_entry (number_for units block (next_sequence (journal_at k journal))) p change))
-    (ap (λ (x : Held). open_behind x units journal block) same ∙ open_same (over_table roomy) h n units journal block)
-    ∙ ap (λ (number : ℕ). with_change_logged (journal_bytes change) (open_behind h units journal block) (change_entry number p change))
+    (ap (λ (x : Held). open_after x units journal block) same ∙ open_same (over_table roomy) h n units journal block)
+    ∙ ap (λ (number : ℕ). with_change_logged (journal_bytes change) (open_after h units journal block) (change_entry number p change))
     (number_with_room h k n units journal block same)
 
--- ---- a data space that has room, behind a journal that was written
+-- ---- a data space that has room, after a journal was written
 
 data_apart : (g : JournalList → JournalList) (b : Body) → data_part.of (over_body journal_part g b) ≡ data_part.of b
 data_apart g (bodies.Journal j) = refl
@@ -188,9 +190,9 @@ journal_and_data f g (bodies.Journal j) = refl
 journal_and_data f g _ = refl
 
 -- room is taken, the journal written, and the entry inserted
-pub inserted_behind : (entry : List ℕ) (g : JournalList → JournalList) (h : Held) (space journal : ℕ)
+pub inserted_after : (entry : List ℕ) (g : JournalList → JournalList) (h : Held) (space journal : ℕ)
     → on_table (on_journal (with_room h space) journal g) space (with_inserted entry) ≡ on_table (on_journal h journal g) space (with_inserted entry)
-inserted_behind entry g h space journal =
+inserted_after entry g h space journal =
     ap (λ (k : Held). on_table k space (with_inserted entry)) (parts_commute data_part journal_part (over_table roomy) g (journal_and_data (over_table roomy) g) h space journal)
     ∙ part_twice data_part data_lawful (over_table roomy) (over_table (with_inserted entry)) (over_table (with_inserted entry)) (inserted_anyway entry) (on_journal h journal g) space
 
@@ -240,11 +242,11 @@ inserted_left maps h new journal g space entry (Err e) ok err m = subst (λ (k :
 -- an entry that is inserted and logged, or refused for want of memory
 pub insertion_ok : (s : State) (p block journal : ℕ) (change : UnitChange) (entry : List ℕ) (r : Result (Unit {0}) NoMemory) (h : Held) (units : UnitMap) → journal_for s.held change.space.0 ≡ Some journal
     → OnOk r (h ≡ on_table (on_journal s.held journal (logged_by s.held s.units p block journal change)) change.space.0 (with_inserted entry))
-    → OnOk r (units ≡ units_behind s.units p block (number_for s.units block (next_sequence (journal_at s.held journal))) change)
+    → OnOk r (units ≡ units_after s.units p block (number_for s.units block (next_sequence (journal_at s.held journal))) change)
     → OnOk r (record s { held = h; units = units } ≡ insertion_logged s p block change entry)
 unfolding logged
-insertion_ok s p block journal change entry (Ok x) h units there objects behind = rw (there, objects, behind) refl
-insertion_ok s p block journal change entry (Err e) h units there objects behind = tt
+insertion_ok s p block journal change entry (Ok x) h units there objects joined = rw (there, objects, joined) refl
+insertion_ok s p block journal change entry (Err e) h units there objects joined = tt
 
 named_there : (h : Held) (port : Option Port) (n : ℕ) → journal_named h port ≡ Some n → is_journal h n ≡ true
 named_there h None n e = cc

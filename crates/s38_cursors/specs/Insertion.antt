@@ -6,12 +6,13 @@ use Rattle.s38_commits.specs.Units.{UnitMap}
 use Rattle.s38_dataspaces.specs.Table.{DataTable}
 use Rattle.s38_journals.specs.Journals.{JournalList}
 use Rattle.s38_rules.specs.declared.data_body.DataBody.{DataBody}
-use Rattle.s38_rules.specs.Changing.{change_entry, logged, next_sequence, number_for, with_change_logged}
-use Rattle.s38_rules.specs.DataSpaces.{with_inserted}
-use Rattle.s38_rules.specs.Held.{Held}
-use Rattle.s38_rules.specs.Journaling.{open_behind}
-use Rattle.s38_rules.specs.Parts.{data_part, journal_at, on_table, part_at}
-use Rattle.s38_rules.specs.State.{State}
+use Rattle.s38_rules.specs.families.Changing.{change_entry, logged, next_sequence, number_for, with_change_logged}
+use Rattle.s38_rules.specs.families.EntryChanges.{with_inserted}
+use Rattle.s38_rules.specs.state.Held.{Held}
+use Rattle.s38_rules.specs.state.Journaling.{open_after}
+use Rattle.s38_rules.specs.state.Parts.{data_part, part_at}
+use Rattle.s38_rules.specs.state.PartsAt.{journal_at, on_table}
+use Rattle.s38_rules.specs.state.State.{State}
 
 -- a data space has no room yet
 abbrev pub needs_room : Option DataBody → Bool
@@ -34,13 +35,13 @@ with_room h n = on_table h n roomy
 abbrev pub given_back : Held → ℕ → Bool → Held
 given_back h n taken = if taken then on_table h n roomless else h
 
--- a journal behind a change, which is its next entry
+-- a journal after a change, which is its next entry
 abbrev pub logged_by : Held → UnitMap → ℕ → ℕ → ℕ → UnitChange → JournalList → JournalList
 logged_by h units p block journal change =
-    with_change_logged (journal_bytes change) (open_behind h units journal block)
+    with_change_logged (journal_bytes change) (open_after h units journal block)
     (change_entry (number_for units block (next_sequence (journal_at h journal))) p change)
 
--- a change that inserts an entry is logged, and the entry stands
+-- a change that inserts an entry is logged, and the entry is there
 abbrev pub insertion_logged : State → ℕ → ℕ → UnitChange → List ℕ → State
 insertion_logged s p block change entry =
     record (logged s p block change) { held = on_table (logged s p block change).held change.space.0 (with_inserted entry) }

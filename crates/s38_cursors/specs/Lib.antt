@@ -1,2 +1,2 @@
 pub mod Insertion
-pub mod Standing
+pub mod CurrentEntry

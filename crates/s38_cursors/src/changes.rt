@@ -2,17 +2,19 @@
 ghost use Rattle.std.specs.Prelude.{◌≡◌, None, Some, IfOk, IsTrue, OnErr, OnOk};
 ghost use Rattle.s38_dataspaces.specs.Refusals.{delete_refusal, update_refusal};
 ghost use Rattle.s38_dataspaces.specs.Values.{have_values};
-ghost use Rattle.s38_rules.specs.DataSpaces.{at_position, moved_to, next_ordinal, with_changed, with_inserted};
-ghost use Rattle.s38_rules.specs.Parts.{on_cursor, on_table, over_table, table_at};
+ghost use Rattle.s38_rules.specs.families.EntryChanges.{next_ordinal, with_changed, with_inserted};
+ghost use Rattle.s38_rules.specs.families.CursorSeeks.{moved_to};
+ghost use Rattle.s38_rules.specs.families.Cursors.{at_position};
+ghost use Rattle.s38_rules.specs.state.PartsAt.{on_cursor, on_table, over_table, table_at};
 
 use s38_base::{NoMemory, ObjNum};
 use s38_invoke::{Core, Profiles};
 use s38_objects::Objects;
 use s38_rules::{Cursor, DataBody};
 
-// ---- where a cursor stands
+// ---- where a cursor is
 
-fn stand(cursor: &mut Cursor, to: Option<u32>)
+fn move_cursor(cursor: &mut Cursor, to: Option<u32>)
     ensures { cursor.new ≡ moved_to to cursor.old }
 {
     if let Some(position) = to {
@@ -20,20 +22,20 @@ fn stand(cursor: &mut Cursor, to: Option<u32>)
     }
 }
 
-/// The cursor of a number stands at an ordinal from now on, or where it stood.
-fn stand_in(objects: &mut Objects, number: ObjNum, to: Option<u32>)
+/// The cursor of a number moves to an ordinal, or stays where it is.
+fn move_in(objects: &mut Objects, number: ObjNum, to: Option<u32>)
     ensures { objects.new ≡ on_cursor objects.old number.0 (moved_to to) }
 {
     if let Some(cursor) = objects.cursor_mut(number) {
-        stand(cursor, to);
+        move_cursor(cursor, to);
     }
 }
 
 /// The same, among the objects of a world.
-pub fn stand_at(world: &mut Core<Objects, Profiles>, number: ObjNum, to: Option<u32>)
+pub fn move_at(world: &mut Core<Objects, Profiles>, number: ObjNum, to: Option<u32>)
     ensures { world.new ≡ record world.old { held = on_cursor world.old.held number.0 (moved_to to) } }
 {
-    stand_in(&mut world.objects, number, to);
+    move_in(&mut world.objects, number, to);
 }
 
 // ---- an entry is inserted
@@ -50,7 +52,7 @@ fn insert(body: &mut DataBody, entry: &[u8]) -> Result<u32, NoMemory>
     }
 }
 
-/// An entry stands under the next ordinal of the data space of a number; where memory is refused nothing changes.
+/// An entry gets the next ordinal of the data space of a number; where memory is refused nothing changes.
 fn insert_in(objects: &mut Objects, number: ObjNum, entry: &[u8]) -> Result<u32, NoMemory>
     requires { IsTrue (have_values (table_at objects.old number.0).fields entry.now) }
     ensures ordinal { IfOk result (λ at. at ≡ next_ordinal (table_at objects.old number.0)) }
@@ -93,7 +95,7 @@ fn update(body: &mut DataBody, at: u32, entry: &[u8])
     }
 }
 
-/// Another entry stands under an ordinal of the data space of a number.
+/// An ordinal has another entry in the data space of a number.
 fn update_in(objects: &mut Objects, number: ObjNum, at: u32, entry: &[u8])
     requires fits { update_refusal (table_at objects.old number.0) at entry.now ≡ None }
     requires values { IsTrue (have_values (table_at objects.old number.0).fields entry.now) }
@@ -125,7 +127,7 @@ fn delete(body: &mut DataBody, at: u32)
     }
 }
 
-/// No entry stands any more under an ordinal of the data space of a number.
+/// An ordinal has no entry any more in the data space of a number.
 fn delete_in(objects: &mut Objects, number: ObjNum, at: u32)
     requires { delete_refusal (table_at objects.old number.0) at ≡ None }
     ensures { objects.new ≡ on_table objects.old number.0 (with_changed at None) }

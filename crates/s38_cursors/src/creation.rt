@@ -1,9 +1,10 @@
 //! Data spaces and cursors are made.
-ghost use Rattle.s38_rules.specs.Changes.{done};
+ghost use Rattle.s38_rules.specs.families.Changes.{done};
 ghost use Rattle.std.specs.Prelude.{◌≡◌, ◌≤◌, [], None, IfOk, IsTrue, OnErr, OnOk, length};
 ghost use Rattle.std.specs.Option.{option_copied};
 ghost use Rattle.s38_dataspaces.specs.Table.{are_fields};
-ghost use Rattle.s38_rules.specs.DataSpaces.{attributes_of, block_needs, created_cursor, created_data_space, crtcr_changes, crtcr_fails, crtcr_needs, crtds_changes, crtds_fails, new_cursor, new_data_space, proper_fields};
+ghost use Rattle.s38_rules.specs.families.DataSpaces.{attributes_of, created_data_space, crtds_changes, crtds_fails, new_data_space, proper_fields};
+ghost use Rattle.s38_rules.specs.families.Cursors.{block_needs, created_cursor, crtcr_changes, crtcr_fails, crtcr_needs, new_cursor};
 
 use s38_base::{Attr, AttrList, Exception, Kind, NoMemory, ObjNum, Rights, Seq};
 use s38_changes::{creation_changes, creation_fails, creation_needs, in_context};
@@ -23,7 +24,7 @@ pub fn created_data_space(objects: &Objects, operands: &[Operand]) -> Creating
     in_context(Kind::DataSpace, 1, objects, operands)
 }
 
-#[tactic(auto, unfolding(s38_rules::specs::DataSpaces::crtds_fails))]
+#[tactic(auto, unfolding(s38_rules::specs::families::DataSpaces::crtds_fails))]
 pub fn crtds_fails(
     world: &Core<Objects, Profiles>,
     process: u32,
@@ -95,7 +96,7 @@ pub fn created_cursor(objects: &Objects, operands: &[Operand]) -> Creating
 }
 
 /// UPDATE on the commit block, where one is given.
-#[tactic(auto, unfolding(s38_rules::specs::DataSpaces::block_needs))]
+#[tactic(auto, unfolding(s38_rules::specs::families::Cursors::block_needs))]
 fn block_needs(operands: &[Operand]) -> Needs
     ensures needs { result ≡ block_needs operands.now }
     ensures few { length result ≤ 1 }
@@ -108,7 +109,7 @@ fn block_needs(operands: &[Operand]) -> Needs
 }
 
 /// INSERT on the context, RETRIEVE on the data space, and what the commit block needs.
-#[tactic(auto, unfolding(s38_rules::specs::DataSpaces::crtcr_needs, s38_rules::specs::Creation::creation_needs))]
+#[tactic(auto, unfolding(s38_rules::specs::families::Cursors::crtcr_needs, s38_rules::specs::families::Creation::creation_needs))]
 pub fn crtcr_needs(operands: &[Operand]) -> Needs
     ensures { result ≡ crtcr_needs operands.now }
 {
@@ -116,7 +117,7 @@ pub fn crtcr_needs(operands: &[Operand]) -> Needs
     creation_needs(operands).and(space.and(block_needs(operands)))
 }
 
-#[tactic(auto, unfolding(s38_rules::specs::DataSpaces::crtcr_fails))]
+#[tactic(auto, unfolding(s38_rules::specs::families::Cursors::crtcr_fails))]
 pub fn crtcr_fails(
     world: &Core<Objects, Profiles>,
     process: u32,

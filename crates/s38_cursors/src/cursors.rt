@@ -1,8 +1,9 @@
 //! The family of data spaces and cursors: made and destroyed; a cursor set; entries inserted, read, updated and deleted
-//! where it stands.
-ghost use Rattle.s38_rules.specs.Changes.{done};
+//! where it is.
+ghost use Rattle.s38_rules.specs.families.Changes.{done};
 ghost use Rattle.std.specs.Prelude.{◌≡◌, None, IfOk, OnErr, OnOk};
-ghost use Rattle.s38_rules.specs.DataSpaces.{data_spaces_row, through_cursor};
+ghost use Rattle.s38_rules.specs.families.DataSpaces.{data_spaces_row};
+ghost use Rattle.s38_rules.specs.families.Cursors.{through_cursor};
 
 use crate::creation::{
     created_cursor, created_data_space, crtcr, crtcr_fails, crtcr_needs, crtds, crtds_fails,
@@ -21,7 +22,7 @@ use s38_rules::Sought;
 use std::alloc::Global;
 
 /// RETRIEVE on the cursor, and a right on its data space, which no operand names.
-#[tactic(auto, unfolding(s38_rules::specs::DataSpaces::through_cursor))]
+#[tactic(auto, unfolding(s38_rules::specs::families::Cursors::through_cursor))]
 fn through_cursor(
     objects: &Objects,
     operands: &[Operand],
@@ -43,7 +44,7 @@ fn through_cursor(
 }
 
 /// What an instruction of data spaces needs.
-#[tactic(auto, unfolding(s38_rules::specs::DataSpaces::data_spaces_row))]
+#[tactic(auto, unfolding(s38_rules::specs::families::DataSpaces::data_spaces_row))]
 pub fn needs(world: &Core<Objects, Profiles>, act: Act<'_>) -> Needs
     ensures { result ≡ (data_spaces_row act.entry.request.now.op).needs world.now act.entry.process act.entry.depth act.entry.request.now }
 {
@@ -92,7 +93,7 @@ fn changing_needs(objects: &Objects, operands: &[Operand], right: Rights) -> Nee
 }
 
 /// The first of its conditions and limits that fails.
-#[tactic(auto, unfolding(s38_rules::specs::DataSpaces::data_spaces_row))]
+#[tactic(auto, unfolding(s38_rules::specs::families::DataSpaces::data_spaces_row))]
 pub fn conditions(world: &Core<Objects, Profiles>, act: Act<'_>) -> Option<Exception>
     ensures { result ≡ (data_spaces_row act.entry.request.now.op).fails world.now act.entry.process act.entry.depth act.entry.request.now }
 {
@@ -112,7 +113,7 @@ pub fn conditions(world: &Core<Objects, Profiles>, act: Act<'_>) -> Option<Excep
 }
 
 /// The value for its receiver.
-#[tactic(auto, unfolding(s38_rules::specs::DataSpaces::data_spaces_row))]
+#[tactic(auto, unfolding(s38_rules::specs::families::DataSpaces::data_spaces_row))]
 pub fn value(
     alloc: Global,
     world: &Core<Objects, Profiles>,
@@ -131,7 +132,7 @@ pub fn value(
 }
 
 /// What it changes, where it doesn't fail; where memory is refused nothing changes.
-#[tactic(auto, unfolding(s38_rules::specs::DataSpaces::data_spaces_row))]
+#[tactic(auto, unfolding(s38_rules::specs::families::DataSpaces::data_spaces_row))]
 pub fn apply(
     alloc: Global,
     world: &mut Core<Objects, Profiles>,

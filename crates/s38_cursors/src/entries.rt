@@ -1,15 +1,16 @@
-//! Entries inserted, read, updated and deleted where a cursor stands.
-ghost use Rattle.s38_rules.specs.Changes.{done};
+//! Entries inserted, read, updated and deleted at a cursor.
+ghost use Rattle.s38_rules.specs.families.Changes.{done};
 ghost use Rattle.std.specs.Prelude.{◌≡◌, None, Some, IfOk, OnErr, OnOk};
 ghost use Rattle.std.specs.Option.{option_copied};
 ghost use Rattle.s38_compute.specs.Piece.{piece_bytes};
 ghost use Rattle.s38_cursors.specs.Insertion.{insertion_logged};
-ghost use Rattle.s38_rules.specs.Changing.{logged};
-ghost use Rattle.s38_rules.specs.DataSpaces.{change_at, current_changes, current_fails, cursor_of, entry_or_none, insdsen_changes, insdsen_fails, insertion, next_ordinal, retdsen_gives, table_of, updsen_fails};
-ghost use Rattle.s38_rules.specs.Journaling.{journal_for};
-ghost use Rattle.s38_rules.specs.Operands.{bytes_at, target};
+ghost use Rattle.s38_rules.specs.families.Changing.{logged};
+ghost use Rattle.s38_rules.specs.families.EntryChanges.{change_at, current_changes, current_fails, insdsen_changes, insdsen_fails, insertion, next_ordinal, updsen_fails};
+ghost use Rattle.s38_rules.specs.families.Cursors.{cursor_named, entry_value, retdsen_gives, table_of};
+ghost use Rattle.s38_rules.specs.state.Journaling.{journal_for};
+ghost use Rattle.s38_rules.specs.ask.Operands.{bytes_at, target};
 
-use crate::changes::{delete_at, insert_at, stand_at, update_at};
+use crate::changes::{delete_at, insert_at, move_at, update_at};
 use crate::entry_rules::current;
 use crate::insertion::insert_logged;
 use crate::reads::{cursor_in, cursor_of, journal_in, next_ordinal_at};
@@ -74,7 +75,7 @@ fn insertion(
     })
 }
 
-/// The entry stands under the next ordinal of a journaled data space, and the change is logged; where memory is refused
+/// The entry gets the next ordinal of a journaled data space, and the change is logged; where memory is refused
 /// nothing changes.
 fn insert_journaled(
     alloc: Global,
@@ -86,9 +87,9 @@ fn insert_journaled(
 ) -> Result<u32, NoMemory>
     requires fails { insdsen_fails world.old process operands.now ≡ None }
     requires entry { entry.now ≡ bytes_at world.old.held operands.now 2 }
-    requires journal { journal_for world.old.held (cursor_of world.old.held operands.now 1).space.0 ≡ Some journal.0 }
+    requires journal { journal_for world.old.held (cursor_named world.old.held operands.now 1).space.0 ≡ Some journal.0 }
     ensures ordinal { IfOk result (λ at. at ≡ next_ordinal (table_of world.old.held operands.now 1)) }
-    ensures ok { OnOk result (world.new ≡ insertion_logged world.old process (cursor_of world.old.held operands.now 1).block.0 (insertion world.old.held operands.now) entry.now) }
+    ensures ok { OnOk result (world.new ≡ insertion_logged world.old process (cursor_named world.old.held operands.now 1).block.0 (insertion world.old.held operands.now) entry.now) }
     ensures err { OnErr result (world.new ≡ world.old) }
 {
     let cursor = cursor_in(world, operands, 1);
@@ -102,7 +103,7 @@ fn insert_journaled(
     }
 }
 
-/// The entry stands under the next ordinal, and the change is logged where the data space is journaled; where memory is
+/// The entry gets the next ordinal, and the change is logged where the data space is journaled; where memory is
 /// refused nothing changes.
 fn insert_entry(
     alloc: Global,
@@ -114,7 +115,7 @@ fn insert_entry(
     requires fails { insdsen_fails world.old process operands.now ≡ None }
     requires entry { entry.now ≡ bytes_at world.old.held operands.now 2 }
     ensures ordinal { IfOk result (λ at. at ≡ next_ordinal (table_of world.old.held operands.now 1)) }
-    ensures ok { OnOk result (world.new ≡ insertion_logged world.old process (cursor_of world.old.held operands.now 1).block.0 (insertion world.old.held operands.now) entry.now) }
+    ensures ok { OnOk result (world.new ≡ insertion_logged world.old process (cursor_named world.old.held operands.now 1).block.0 (insertion world.old.held operands.now) entry.now) }
     ensures err { OnErr result (world.new ≡ world.old) }
 {
     let space = cursor_in(world, operands, 1).space;
@@ -124,7 +125,7 @@ fn insert_entry(
     }
 }
 
-/// The entry stands under the next ordinal, and so does the cursor; where memory is refused nothing changes.
+/// The entry gets the next ordinal, and the cursor is there; where memory is refused nothing changes.
 pub fn insdsen(
     alloc: Global,
     world: &mut Core<Objects, Profiles>,
@@ -142,7 +143,7 @@ pub fn insdsen(
     };
     match insert_entry(alloc, world, process, operands, entry.as_slice()) {
         Ok(ordinal) => {
-            stand_at(world, number, Some(ordinal));
+            move_at(world, number, Some(ordinal));
             Ok(())
         }
         Err(fault) => Err(fault),
@@ -152,7 +153,7 @@ pub fn insdsen(
 // ---- RETDSEN
 
 fn entry_or_none(entry: Option<&[u8]>) -> &[u8]
-    ensures { result.now ≡ entry_or_none (option_copied entry.entry) }
+    ensures { result.now ≡ entry_value (option_copied entry.entry) }
 {
     match entry {
         None => &[],
@@ -161,7 +162,7 @@ fn entry_or_none(entry: Option<&[u8]>) -> &[u8]
 }
 
 /// The entry, cut or filled with zeros.
-#[tactic(auto, unfolding(s38_rules::specs::DataSpaces::retdsen_bytes))]
+#[tactic(auto, unfolding(s38_rules::specs::families::Cursors::retdsen_bytes))]
 pub fn retdsen_gives(
     alloc: Global,
     objects: &Objects,
@@ -174,7 +175,7 @@ pub fn retdsen_gives(
     Ok(Val::Bytes(bytes))
 }
 
-// ---- a change of the entry at which a cursor stands
+// ---- a change of the entry at which a cursor is
 
 /// The change of an entry to another one, or to none.
 fn change_of(
@@ -206,7 +207,7 @@ fn change_in(
     change_of(alloc, &world.objects, operands, entry)
 }
 
-/// The change of the entry at which a cursor stands is logged; where memory is refused nothing changes.
+/// The change of the entry at a cursor is logged; where memory is refused nothing changes.
 fn log_journaled(
     alloc: Global,
     world: &mut Core<Objects, Profiles>,
@@ -215,7 +216,7 @@ fn log_journaled(
     entry: Option<&[u8]>,
 ) -> Result<(), NoMemory>
     requires { current_fails world.old process operands.now (option_copied entry) ≡ None }
-    ensures ok { OnOk result (world.new ≡ logged world.old process (cursor_of world.old.held operands.now 1).block.0 (change_at world.old.held operands.now (option_copied entry.entry))) }
+    ensures ok { OnOk result (world.new ≡ logged world.old process (cursor_named world.old.held operands.now 1).block.0 (change_at world.old.held operands.now (option_copied entry.entry))) }
     ensures err { OnErr result (world.new ≡ world.old) }
 {
     let cursor = cursor_in(world, operands, 1);
@@ -236,8 +237,8 @@ fn log_current(
     entry: Option<&[u8]>,
 ) -> Result<(), NoMemory>
     requires fails { current_fails world.old process operands.now (option_copied entry) ≡ None }
-    requires space { space.0 ≡ (cursor_of world.old.held operands.now 1).space.0 }
-    ensures ok { OnOk result (world.new ≡ logged world.old process (cursor_of world.old.held operands.now 1).block.0 (change_at world.old.held operands.now (option_copied entry.entry))) }
+    requires space { space.0 ≡ (cursor_named world.old.held operands.now 1).space.0 }
+    ensures ok { OnOk result (world.new ≡ logged world.old process (cursor_named world.old.held operands.now 1).block.0 (change_at world.old.held operands.now (option_copied entry.entry))) }
     ensures err { OnErr result (world.new ≡ world.old) }
 {
     match journal_in(world, space) {
@@ -248,7 +249,7 @@ fn log_current(
 
 // ---- UPDSEN
 
-/// The change is logged, and another entry stands where the cursor does; where memory is refused nothing changes.
+/// The change is logged, and another entry is where the cursor is; where memory is refused nothing changes.
 fn update_entry(
     alloc: Global,
     world: &mut Core<Objects, Profiles>,
@@ -271,7 +272,7 @@ fn update_entry(
     }
 }
 
-/// Another entry stands where the cursor does; where memory is refused nothing changes.
+/// Another entry is where the cursor is; where memory is refused nothing changes.
 pub fn updsen(
     alloc: Global,
     world: &mut Core<Objects, Profiles>,
@@ -291,7 +292,7 @@ pub fn updsen(
 
 // ---- DELDSEN
 
-/// The entry at which the cursor stands is there no more; where memory is refused nothing changes.
+/// The entry at the cursor is there no more; where memory is refused nothing changes.
 pub fn deldsen(
     alloc: Global,
     world: &mut Core<Objects, Profiles>,

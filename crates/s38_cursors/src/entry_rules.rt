@@ -2,16 +2,18 @@
 ghost use Rattle.std.specs.Prelude.{◌≡◌, ◌+◌, ◌≤◌, length};
 ghost use Rattle.std.specs.Option.{option_copied, unwrap_or};
 ghost use Rattle.s38_base.specs.Signals.{first};
-ghost use Rattle.s38_commits.specs.Changes.{entry_bytes};
-ghost use Rattle.s38_cursors.specs.Standing.{standing_fails, standing_rule};
-ghost use Rattle.s38_dataspaces.specs.Entries.{Entry};
-ghost use Rattle.s38_rules.specs.Changing.{journal_rule};
-ghost use Rattle.s38_rules.specs.DataSpaces.{change_rules, current, current_fails, desds_fails, entry_rule, insdsen_fails, retdsen_fails, room_rule, updsen_fails};
-ghost use Rattle.s38_rules.specs.Journaling.{journal_for};
-ghost use Rattle.s38_rules.specs.Parts.{no_table};
+ghost use Rattle.s38_commits.specs.Changes.{entry_size};
+ghost use Rattle.s38_cursors.specs.CurrentEntry.{current_entry_fails, current_rule};
+ghost use Rattle.s38_dataspaces.specs.Entries.{DataEntry};
+ghost use Rattle.s38_rules.specs.families.Changing.{journal_rule};
+ghost use Rattle.s38_rules.specs.families.DataSpaces.{desds_fails};
+ghost use Rattle.s38_rules.specs.families.EntryChanges.{change_rules, current_fails, entry_room_rule, entry_rule, insdsen_fails, updsen_fails};
+ghost use Rattle.s38_rules.specs.families.Cursors.{current, retdsen_fails};
+ghost use Rattle.s38_rules.specs.state.Journaling.{journal_for};
+ghost use Rattle.s38_rules.specs.state.PartsAt.{no_table};
 
 use crate::reads::{
-    cursor_of, entry_in, entry_len_in, fields_in, grown_image_in, next_ordinal_in, standing_len_in,
+    cursor_of, entry_in, entry_len_in, fields_in, grown_image_in, len_at_ordinal, next_ordinal_in,
     table_at,
 };
 use s38_base::Exception;
@@ -26,13 +28,13 @@ use s38_operands::{fails, have_values_at, size_at, target};
 use s38_rules::Cursor;
 use s38_units::{block_rules, held_rule, journal_for, journal_rule, read_rule};
 
-/// How many bytes of a journal stand before those of the entries of a change.
+/// How many bytes of a journal precede those of the entries of a change.
 const HEAD: u32 = 41;
 
 // ---- DESDS
 
 /// No unit has a change of one of its entries.
-#[tactic(auto, unfolding(s38_rules::specs::DataSpaces::desds_fails))]
+#[tactic(auto, unfolding(s38_rules::specs::families::DataSpaces::desds_fails))]
 pub fn desds_fails(world: &Core<Objects, Profiles>, operands: &[Operand]) -> Option<Exception>
     ensures { result ≡ desds_fails world.now operands.now }
 {
@@ -59,12 +61,12 @@ fn entry_rule(
 
 /// One entry more stays within the limit of a body.
 fn room_rule(limit: u32, table: Option<&DataSpace>) -> Option<Exception>
-    ensures { result ≡ room_rule limit (unwrap_or (option_copied table.entry) no_table) }
+    ensures { result ≡ entry_room_rule limit (unwrap_or (option_copied table.entry) no_table) }
 {
     fails(limit < grown_image_in(table), LIMIT_EXCEEDED, 0)
 }
 
-/// The entry at which the cursor of an operand stands.
+/// The entry at which the cursor of an operand is.
 pub fn current<'a>(objects: &'a Objects, operands: &[Operand], k: usize) -> Option<&'a [u8]>
     ensures { option_copied result ≡ current objects.now operands.now k }
 {
@@ -72,9 +74,9 @@ pub fn current<'a>(objects: &'a Objects, operands: &[Operand], k: usize) -> Opti
     entry_in(table_at(objects, cursor.space), cursor.position)
 }
 
-/// A cursor stands at an entry of its data space.
-fn standing_rule(table: Option<&DataSpace>, cursor: &Cursor, k: u8) -> Option<Exception>
-    ensures { result ≡ standing_rule (unwrap_or (option_copied table.entry) no_table) cursor.now k }
+/// A cursor is at an entry of its data space.
+fn current_rule(table: Option<&DataSpace>, cursor: &Cursor, k: u8) -> Option<Exception>
+    ensures { result ≡ current_rule (unwrap_or (option_copied table.entry) no_table) cursor.now k }
 {
     fails(
         entry_in(table, cursor.position).is_none(),
@@ -145,8 +147,8 @@ pub fn insdsen_fails(
 
 // ---- RETDSEN
 
-/// The cursor stands at an entry, and no unit of another process changed it.
-#[tactic(auto, unfolding(s38_rules::specs::DataSpaces::retdsen_fails))]
+/// The cursor is at an entry, and no unit of another process changed it.
+#[tactic(auto, unfolding(s38_rules::specs::families::Cursors::retdsen_fails))]
 pub fn retdsen_fails(
     world: &Core<Objects, Profiles>,
     process: u32,
@@ -156,7 +158,7 @@ pub fn retdsen_fails(
 {
     let cursor = cursor_of(&world.objects, operands, 2);
     let table = table_at(&world.objects, cursor.space);
-    if let Some(failure) = standing_rule(table, &cursor, 2) {
+    if let Some(failure) = current_rule(table, &cursor, 2) {
         return Some(failure);
     }
     read_rule(&world.units, process, cursor.space, cursor.position)
@@ -164,8 +166,8 @@ pub fn retdsen_fails(
 
 // ---- UPDSEN and DELDSEN
 
-/// The cursor stands at an entry, the change may be made, and there is room for one that leaves so many bytes.
-fn standing_fails(
+/// The cursor is at an entry, the change may be made, and there is room for one that leaves so many bytes.
+fn current_entry_fails(
     world: &Core<Objects, Profiles>,
     process: u32,
     cursor: &Cursor,
@@ -173,24 +175,19 @@ fn standing_fails(
     after: usize,
 ) -> Option<Exception>
     requires { after ≤ 4096 }
-    ensures { (entry : Entry) → entry_bytes entry ≡ after → result ≡ standing_fails world.now process cursor.now (unwrap_or (option_copied table.entry) no_table) entry }
+    ensures { (entry : DataEntry) → entry_size entry ≡ after → result ≡ current_entry_fails world.now process cursor.now (unwrap_or (option_copied table.entry) no_table) entry }
 {
-    if let Some(failure) = standing_rule(table, cursor, 1) {
+    if let Some(failure) = current_rule(table, cursor, 1) {
         return Some(failure);
     }
     if let Some(failure) = change_rules(world, process, cursor, cursor.position) {
         return Some(failure);
     }
-    journal_room(
-        world,
-        cursor,
-        standing_len_in(table, cursor.position),
-        after,
-    )
+    journal_room(world, cursor, len_at_ordinal(table, cursor.position), after)
 }
 
 /// The same, of the cursor of operand 1.
-#[tactic(auto, unfolding(s38_rules::specs::DataSpaces::current_fails))]
+#[tactic(auto, unfolding(s38_rules::specs::families::EntryChanges::current_fails))]
 pub fn current_fails(
     world: &Core<Objects, Profiles>,
     process: u32,
@@ -198,14 +195,14 @@ pub fn current_fails(
     after: usize,
 ) -> Option<Exception>
     requires { after ≤ 4096 }
-    ensures { (entry : Entry) → entry_bytes entry ≡ after → result ≡ current_fails world.now process operands.now entry }
+    ensures { (entry : DataEntry) → entry_size entry ≡ after → result ≡ current_fails world.now process operands.now entry }
 {
     let cursor = cursor_of(&world.objects, operands, 1);
     let table = table_at(&world.objects, cursor.space);
-    standing_fails(world, process, &cursor, table, after)
+    current_entry_fails(world, process, &cursor, table, after)
 }
 
-/// It is an entry of the data space, and the one at which the cursor stands may be changed. The cursor and its data space
+/// It is an entry of the data space, and the one at which the cursor is may be changed. The cursor and its data space
 /// are looked up once.
 pub fn updsen_fails(
     world: &Core<Objects, Profiles>,
@@ -220,5 +217,5 @@ pub fn updsen_fails(
     if let Some(failure) = entry_rule(table, objects, operands) {
         return Some(failure);
     }
-    standing_fails(world, process, &cursor, table, entry_len_in(table))
+    current_entry_fails(world, process, &cursor, table, entry_len_in(table))
 }

@@ -6,10 +6,11 @@ ghost use Rattle.s38_cursors.specs.Insertion.{given_back, insertion_logged, logg
 ghost use Rattle.s38_dataspaces.specs.Refusals.{insert_refusal};
 ghost use Rattle.s38_dataspaces.specs.Table.{entry_len};
 ghost use Rattle.s38_dataspaces.specs.Values.{have_values};
-ghost use Rattle.s38_rules.specs.Changing.{held_rule, is_journal_full, journal_rule, next_sequence, number_for, units_behind};
-ghost use Rattle.s38_rules.specs.DataSpaces.{room_rule, with_inserted};
-ghost use Rattle.s38_rules.specs.Journaling.{is_journal, journal_for};
-ghost use Rattle.s38_rules.specs.Parts.{data_part, journal_at, on_journal, on_table, over_table, part_at, table_at};
+ghost use Rattle.s38_rules.specs.families.Changing.{held_rule, is_journal_full, journal_rule, next_sequence, number_for, units_after};
+ghost use Rattle.s38_rules.specs.families.EntryChanges.{entry_room_rule, with_inserted};
+ghost use Rattle.s38_rules.specs.state.Journaling.{is_journal, journal_for};
+ghost use Rattle.s38_rules.specs.state.Parts.{data_part, part_at};
+ghost use Rattle.s38_rules.specs.state.PartsAt.{journal_at, on_journal, on_table, over_table, table_at};
 
 use s38_base::{NoMemory, ObjNum};
 use s38_commits::{UnitChange, Units};
@@ -84,7 +85,7 @@ fn insert(body: &mut DataBody, entry: &[u8])
     }
 }
 
-/// An entry stands under the next ordinal of the data space of a number, which has room for it.
+/// An entry gets the next ordinal of the data space of a number, which has room for it.
 fn insert_in(objects: &mut Objects, number: ObjNum, entry: &[u8])
     requires fits { IfSome (part_at data_part objects.old number.0) (λ body. insert_refusal body.space entry.now ≡ None) }
     requires room { IfSome (part_at data_part objects.old number.0) (λ body. 0 < body.space.spare) }
@@ -98,7 +99,7 @@ fn insert_in(objects: &mut Objects, number: ObjNum, entry: &[u8])
 
 // ---- both
 
-/// An entry stands under the next ordinal of its data space, and the change goes to a journal space and into the unit of
+/// An entry gets the next ordinal of its data space, and the change goes to a journal space and into the unit of
 /// its commit block; where memory is refused nothing changes.
 fn insert_both(
     objects: &mut Objects,
@@ -116,7 +117,7 @@ fn insert_both(
     requires values { have_values (table_at objects.old change.now.space.0).fields entry.now ≡ true }
     ensures objects { OnOk result (objects.new ≡ on_table (on_journal objects.old journal.0 (logged_by objects.old units.old process block.0 journal.0 change.now))
         change.now.space.0 (with_inserted entry.now)) }
-    ensures units { OnOk result (units.new ≡ units_behind units.old process block.0 (number_for units.old block.0 (next_sequence (journal_at objects.old journal.0))) change.now) }
+    ensures units { OnOk result (units.new ≡ units_after units.old process block.0 (number_for units.old block.0 (next_sequence (journal_at objects.old journal.0))) change.now) }
     ensures objects_left { OnErr result (objects.new ≡ objects.old) }
     ensures units_left { OnErr result (units.new ≡ units.old) }
 {
@@ -150,7 +151,7 @@ pub fn insert_logged(
     requires free { held_rule world.old.units process block.0 change.now.space.0 change.now.at ≡ None }
     requires limits { journal_rule world.old block.0 (journal_bytes change.now) (Some journal.0) ≡ None }
     requires len { length entry.now ≡ entry_len (table_at world.old.held change.now.space.0).fields }
-    requires image { room_rule world.old.limit (table_at world.old.held change.now.space.0) ≡ None }
+    requires image { entry_room_rule world.old.limit (table_at world.old.held change.now.space.0) ≡ None }
     requires values { have_values (table_at world.old.held change.now.space.0).fields entry.now ≡ true }
     ensures ok { OnOk result (world.new ≡ insertion_logged world.old process block.0 change.now entry.now) }
     ensures err { OnErr result (world.new ≡ world.old) }

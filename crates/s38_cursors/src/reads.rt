@@ -2,13 +2,15 @@
 //! space as one without fields and entries.
 ghost use Rattle.std.specs.Prelude.{◌≡◌, ◌+◌, ◌≤◌, length};
 ghost use Rattle.std.specs.Option.{option_copied, option_map, unwrap_or};
-ghost use Rattle.s38_commits.specs.Changes.{entry_bytes};
+ghost use Rattle.s38_commits.specs.Changes.{entry_size};
 ghost use Rattle.s38_dataspaces.specs.Entries.{entry_at};
 ghost use Rattle.s38_dataspaces.specs.Seeks.{sought};
-ghost use Rattle.s38_dataspaces.specs.Table.{entry_len, image_size};
-ghost use Rattle.s38_rules.specs.DataSpaces.{cursor_of, next_ordinal, standing, table_of};
-ghost use Rattle.s38_rules.specs.Journaling.{journal_for};
-ghost use Rattle.s38_rules.specs.Parts.{cursor_at, no_table, table_at};
+ghost use Rattle.s38_dataspaces.specs.Table.{data_space_image_size, entry_len};
+ghost use Rattle.s38_rules.specs.families.EntryChanges.{next_ordinal};
+ghost use Rattle.s38_rules.specs.families.CursorSeeks.{occupied};
+ghost use Rattle.s38_rules.specs.families.Cursors.{cursor_named, table_of};
+ghost use Rattle.s38_rules.specs.state.Journaling.{journal_for};
+ghost use Rattle.s38_rules.specs.state.PartsAt.{cursor_at, no_table, table_at};
 
 use s38_base::{Attr, ObjNum, Seek};
 use s38_code::Operand;
@@ -37,7 +39,7 @@ fn cursor_at(objects: &Objects, number: ObjNum) -> Cursor
 
 /// The cursor that an operand names.
 pub fn cursor_of(objects: &Objects, operands: &[Operand], k: usize) -> Cursor
-    ensures { result ≡ cursor_of objects.now operands.now k }
+    ensures { result ≡ cursor_named objects.now operands.now k }
 {
     cursor_at(objects, target(objects, operands, k))
 }
@@ -82,7 +84,7 @@ pub fn entry_len_in(table: Option<&DataSpace>) -> usize
 
 /// How many bytes the image has.
 fn image_len_in(table: Option<&DataSpace>) -> u32
-    ensures size { result ≡ image_size (unwrap_or (option_copied table.entry) no_table).fields (length (unwrap_or (option_copied table.entry) no_table).entries) }
+    ensures size { result ≡ data_space_image_size (unwrap_or (option_copied table.entry) no_table).fields (length (unwrap_or (option_copied table.entry) no_table).entries) }
     ensures bound { result ≤ 16777216 }
 {
     match table {
@@ -94,7 +96,7 @@ fn image_len_in(table: Option<&DataSpace>) -> u32
 /// How many bytes the image has with one entry more.
 #[tactic(auto, using(crate::proofs::CursorLaws::image_grown))]
 pub fn grown_image_in(table: Option<&DataSpace>) -> u32
-    ensures { result ≡ image_size (unwrap_or (option_copied table.entry) no_table).fields (length (unwrap_or (option_copied table.entry) no_table).entries + 1) }
+    ensures { result ≡ data_space_image_size (unwrap_or (option_copied table.entry) no_table).fields (length (unwrap_or (option_copied table.entry) no_table).entries + 1) }
 {
     image_len_in(table) + (1 + entry_len_in(table) as u32)
 }
@@ -125,8 +127,8 @@ pub fn entry_in(table: Option<&DataSpace>, at: u32) -> Option<&[u8]>
 }
 
 /// How many bytes the entry of an ordinal has; 0 where there is none.
-pub fn standing_len_in(table: Option<&DataSpace>, at: u32) -> usize
-    ensures len { result ≡ entry_bytes (entry_at (unwrap_or (option_copied table.entry) no_table).entries at) }
+pub fn len_at_ordinal(table: Option<&DataSpace>, at: u32) -> usize
+    ensures len { result ≡ entry_size (entry_at (unwrap_or (option_copied table.entry) no_table).entries at) }
     ensures bound { result ≤ 4096 }
 {
     let Some(table) = table else {
@@ -143,7 +145,7 @@ pub fn standing_len_in(table: Option<&DataSpace>, at: u32) -> usize
 /// The ordinal of the entry that is sought.
 #[tactic(auto, using(crate::proofs::CursorLaws::nowhere))]
 pub fn sought_in(table: Option<&DataSpace>, how: Seek, from: u32) -> Option<u32>
-    ensures { result ≡ sought (standing (unwrap_or (option_copied table.entry) no_table).entries) how from }
+    ensures { result ≡ sought (occupied (unwrap_or (option_copied table.entry) no_table).entries) how from }
 {
     match table {
         Some(table) => table.seek(how, from),
@@ -151,10 +153,10 @@ pub fn sought_in(table: Option<&DataSpace>, how: Seek, from: u32) -> Option<u32>
     }
 }
 
-/// An ordinal, where its entry stands; a number that no ordinal reaches is none.
+/// An ordinal that has an entry; a number that no ordinal reaches is none.
 #[tactic(auto, using(crate::proofs::CursorLaws::nowhere, crate::proofs::CursorLaws::too_far))]
 pub fn ordinal_in(table: Option<&DataSpace>, ordinal: u128) -> Option<u32>
-    ensures { result ≡ sought (standing (unwrap_or (option_copied table.entry) no_table).entries) Seek.At ordinal }
+    ensures { result ≡ sought (occupied (unwrap_or (option_copied table.entry) no_table).entries) Seek.At ordinal }
 {
     match table {
         Some(table) => {
@@ -171,7 +173,7 @@ pub fn ordinal_in(table: Option<&DataSpace>, ordinal: u128) -> Option<u32>
 
 /// The cursor that an operand names.
 pub fn cursor_in(world: &Core<Objects, Profiles>, operands: &[Operand], k: usize) -> Cursor
-    ensures { result ≡ cursor_of world.now.held operands.now k }
+    ensures { result ≡ cursor_named world.now.held operands.now k }
 {
     cursor_of(&world.objects, operands, k)
 }

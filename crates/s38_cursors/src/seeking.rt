@@ -1,10 +1,10 @@
 //! Where a cursor goes.
-ghost use Rattle.s38_rules.specs.Operands.{target};
-ghost use Rattle.s38_rules.specs.Parts.{on_cursor};
+ghost use Rattle.s38_rules.specs.ask.Operands.{target};
+ghost use Rattle.s38_rules.specs.state.PartsAt.{on_cursor};
 ghost use Rattle.std.specs.Prelude.{◌≡◌};
-ghost use Rattle.s38_rules.specs.DataSpaces.{at_sought, is_at, ordinal_rule, seek_fails, seek_of, setcr_fails, sought_ordinal};
+ghost use Rattle.s38_rules.specs.families.CursorSeeks.{at_sought, ordinal_rule, seek_fails, seek_of, seeks_ordinal, setcr_fails, sought_ordinal};
 
-use crate::changes::stand_at;
+use crate::changes::move_at;
 use crate::reads::{cursor_of, ordinal_in, sought_in, table_at};
 use s38_base::exceptions::{DECIMAL_DATA, NO_ENTRY};
 use s38_base::{Exception, Seek};
@@ -30,7 +30,7 @@ fn seek_of(word: u32) -> Seek
 }
 
 fn is_at(how: Seek) -> bool
-    ensures { result ≡ is_at how }
+    ensures { result ≡ seeks_ordinal how }
 {
     matches!(how, Seek::At)
 }
@@ -72,18 +72,18 @@ fn seek_fails(how: Seek, objects: &Objects, operands: &[Operand]) -> Option<Exce
 }
 
 /// There is such an entry.
-#[tactic(auto, unfolding(s38_rules::specs::DataSpaces::setcr_fails))]
+#[tactic(auto, unfolding(s38_rules::specs::families::CursorSeeks::setcr_fails))]
 pub fn setcr_fails(objects: &Objects, operands: &[Operand]) -> Option<Exception>
     ensures { result ≡ setcr_fails objects.now operands.now }
 {
     seek_fails(seek_of(word_at(operands, 2)), objects, operands)
 }
 
-/// The cursor stands where the entry that is sought does.
+/// The cursor moves to the entry that is sought.
 pub fn setcr(world: &mut Core<Objects, Profiles>, operands: &[Operand])
     ensures { world.new ≡ record world.old { held = on_cursor world.old.held (target world.old.held operands.now 1) (at_sought world.old.held operands.now) } }
 {
     let number = target(&world.objects, operands, 1);
     let ordinal = sought_ordinal(seek_of(word_at(operands, 2)), &world.objects, operands);
-    stand_at(world, number, ordinal);
+    move_at(world, number, ordinal);
 }

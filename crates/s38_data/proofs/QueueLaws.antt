@@ -4,16 +4,16 @@ use Rattle.std.specs.Prelude.{Option, Result, Ok, Err, OnOk, OnErr}
 use Rattle.s38_base.specs.declared.fault.NoMemory.{NoMemory}
 use Rattle.s38_base.specs.declared.exception.Exception.{Exception}
 use Rattle.s38_code.specs.declared.operand.Operand.{Operand}
-use Rattle.s38_rules.specs.Creation.{creation_fails}
-use Rattle.s38_rules.specs.Held.{Held}
+use Rattle.s38_rules.specs.families.Creation.{creation_fails}
+use Rattle.s38_rules.specs.state.Held.{Held}
 use Rattle.s38_profiles.specs.ProfileMaps.{ProfileMaps}
 use Rattle.s38_queues.specs.MessageQueue.{MessageQueue}
-use Rattle.s38_rules.specs.Kept.{Mirrors}
-use Rattle.s38_rules.specs.Parts.{on_queue}
+use Rattle.s38_rules.specs.state.Kept.{Mirrors}
+use Rattle.s38_rules.specs.state.PartsAt.{on_queue}
 use Rattle.s38_changes.proofs.KeptLaws.{queue_kept}
-use Rattle.s38_rules.specs.Queues.{created_queue, crtq_fails}
-use Rattle.s38_rules.specs.State.{State}
-use Rattle.s38_rules.specs.Users.{user_of}
+use Rattle.s38_rules.specs.families.Queues.{created_queue, crtq_fails}
+use Rattle.s38_rules.specs.state.State.{State}
+use Rattle.s38_rules.specs.ask.Users.{user_of}
 
 -- a queue that may be made meets the rules of creation
 pub crtq_created : (s : State) (p : ℕ) (ops : List Operand) → crtq_fails s p ops ≡ None

@@ -2,5 +2,8 @@
 //! changes, by family.
 #![tactic(auto)]
 
+mod dequeuing;
+mod enqueuing;
+mod index_entries;
 pub mod indexes;
 pub mod queues;

@@ -1,7 +1,7 @@
 ghost use Rattle.std.specs.Prelude.{◌≡◌, ◌==◌, ◌≤◌, ◌<◌, ◌++◌, ◌∷◌, [], Some, None, IfSome, IsErr, IsOk, IsTrue, OnOk, OnErr, length, map, is_some, not};
 ghost use Rattle.std.specs.List.{list_all};
 ghost use Rattle.std.specs.Option.{option_copied};
-ghost use Rattle.s38_dataspaces.specs.Entries.{entry_at, has_width, put_at, with_entry};
+ghost use Rattle.s38_dataspaces.specs.Entries.{entry_at, has_width, put_at, with_new_entry};
 
 use crate::slots;
 use s38_base::NoMemory;
@@ -13,19 +13,19 @@ use std::marker::Model;
 pub struct Records {
     width: usize,
     spare: u32,
-    standing: Vec<bool>,
+    presence: Vec<bool>,
     bytes: Vec<u8>,
 }
 
 impl Model for Records {
     ghost use Rattle.std.specs.Prelude.{vec_capacity, vec_len};
-    ghost use Rattle.s38_dataspaces.specs.Entries.{IsWhole, Kept, stored};
+    ghost use Rattle.s38_dataspaces.specs.Entries.{IsWhole, KeptEntries, entries_stored};
 
-    ghost Value = { Kept };
+    ghost Value = { KeptEntries };
 
-    ghost view = { λ r. record { width = r.width; spare = r.spare; entries = stored r.width r.standing.items r.bytes.items } };
+    ghost view = { λ r. record { width = r.width; spare = r.spare; entries = entries_stored r.width r.presence.items r.bytes.items } };
 
-    ghost invariant = { λ r. IsWhole r.width r.spare (vec_len r.standing) (vec_capacity r.standing) (vec_len r.bytes) (vec_capacity r.bytes) };
+    ghost invariant = { λ r. IsWhole r.width r.spare (vec_len r.presence) (vec_capacity r.presence) (vec_len r.bytes) (vec_capacity r.bytes) };
 }
 
 impl Records {
@@ -36,7 +36,7 @@ impl Records {
         Records {
             width,
             spare: 0,
-            standing: Vec::new(alloc),
+            presence: Vec::new(alloc),
             bytes: Vec::new(alloc),
         }
     }
@@ -54,15 +54,15 @@ impl Records {
         ensures count { result ≡ length self.now.entries }
         ensures widths { IsTrue (list_all (has_width self.now.width) self.now.entries) }
     {
-        self.standing.len()
+        self.presence.len()
     }
 
-    /// Of each ordinal, from 1 on, whether its entry stands.
-    #[tactic(auto, using(crate::proofs::StoredLaws::stored_standing))]
-    pub fn standing(&self) -> &[bool]
+    /// Of each ordinal, from 1 on, whether its entry is present.
+    #[tactic(auto, using(crate::proofs::StoredLaws::stored_presence))]
+    pub fn presence(&self) -> &[bool]
         ensures { result.now ≡ map (λ entry. is_some entry) self.now.entries }
     {
-        self.standing.as_slice()
+        self.presence.as_slice()
     }
 
     /// The entry of an ordinal; None where it is deleted, and where there is no such ordinal.
@@ -70,7 +70,7 @@ impl Records {
         ensures entry { option_copied result ≡ entry_at self.now.entries at }
         ensures len { IfSome result (λ entry. length entry.now ≡ self.now.width) }
     {
-        slots::entry_in(&self.standing, &self.bytes, at, self.width)
+        slots::entry_in(&self.presence, &self.bytes, at, self.width)
     }
 
     /// Takes the memory of one further entry.
@@ -80,7 +80,7 @@ impl Records {
         ensures room { 0 < self.old.spare → IsOk result }
     {
         if self.spare == 0
-            && slots::reserve_slot(&mut self.standing, &mut self.bytes, self.width).is_err()
+            && slots::reserve_slot(&mut self.presence, &mut self.bytes, self.width).is_err()
         {
             return Err(NoMemory);
         }
@@ -106,9 +106,9 @@ impl Records {
     pub fn push(&mut self, entry: &[u8])
         requires room { 0 < self.old.spare }
         requires len { length entry.now ≡ self.old.width }
-        ensures { self.new ≡ record self.old { spare = 0; entries = with_entry self.old.entries entry.now } }
+        ensures { self.new ≡ record self.old { spare = 0; entries = with_new_entry self.old.entries entry.now } }
     {
-        slots::push_slot(&mut self.standing, &mut self.bytes, entry);
+        slots::push_slot(&mut self.presence, &mut self.bytes, entry);
         self.spare = 0;
     }
 
@@ -143,7 +143,7 @@ impl Records {
         requires len { length entry.now ≡ self.old.width }
         ensures { self.new ≡ record self.old { entries = put_at self.old.entries at (Some entry.now) } }
     {
-        slots::put_slot(&mut self.standing, &mut self.bytes, at - 1, entry);
+        slots::put_slot(&mut self.presence, &mut self.bytes, at - 1, entry);
     }
 
     /// Deletes the entry of an ordinal.
@@ -153,6 +153,6 @@ impl Records {
         requires last { at ≤ length self.old.entries }
         ensures { self.new ≡ record self.old { entries = put_at self.old.entries at None } }
     {
-        slots::clear_slot(&mut self.standing, at - 1);
+        slots::clear_slot(&mut self.presence, at - 1);
     }
 }

@@ -5,7 +5,7 @@ ghost use Rattle.std.specs.Option.{ForSome, option_copied, unwrap_or};
 ghost use Rattle.s38_dataspaces.specs.Entries.{entry_at};
 ghost use Rattle.s38_dataspaces.specs.Refusals.{delete_refusal, insert_refusal, update_refusal};
 ghost use Rattle.s38_dataspaces.specs.Seeks.{IsNowhere, IsSought, sought};
-ghost use Rattle.s38_dataspaces.specs.Table.{are_fields, changed, entry_len, image_size, inserted, inserted_deleted, is_entry_of, may_restore, restored};
+ghost use Rattle.s38_dataspaces.specs.Table.{are_fields, data_space_image_size, entry_len, inserted, inserted_deleted, is_entry_of, may_restore, restored, with_entry_changed};
 ghost use Rattle.s38_dataspaces.specs.Values.{have_values};
 
 use crate::fault::EntryFault;
@@ -85,7 +85,7 @@ impl DataSpace {
 
     /// How many bytes the image of the data space has.
     pub fn image_len(&self) -> u32
-        ensures size { result ≡ image_size self.now.fields (length self.now.entries) }
+        ensures size { result ≡ data_space_image_size self.now.fields (length self.now.entries) }
         ensures bound { result ≤ 16777216 }
     {
         self.size
@@ -199,9 +199,9 @@ impl DataSpace {
     /// Adds an ordinal whose entry is deleted. It is refused where the image would exceed 16,777,216 bytes; `NoMemory`
     /// where memory was refused. A refused call changes nothing.
     pub fn insert_deleted(&mut self) -> Result<(), EntryFault>
-        ensures accepted { OnOk result (image_size self.old.fields (length self.old.entries + 1) ≤ 16777216) }
+        ensures accepted { OnOk result (data_space_image_size self.old.fields (length self.old.entries + 1) ≤ 16777216) }
         ensures ok { OnOk result (self.new ≡ inserted_deleted self.old) }
-        ensures full { IsErrOf result EntryFault.Full → 16777216 < image_size self.old.fields (length self.old.entries + 1) }
+        ensures full { IsErrOf result EntryFault.Full → 16777216 < data_space_image_size self.old.fields (length self.old.entries + 1) }
         ensures fault { IfErr result (λ fault. (fault ≡ EntryFault.Full) ⊎ (fault ≡ EntryFault.NoMemory)) }
         ensures err { OnErr result (self.new ≡ self.old) }
     {
@@ -217,12 +217,12 @@ impl DataSpace {
         Ok(())
     }
 
-    /// Puts an entry in the place of one that stands, without memory. It is refused for its length, then where no
-    /// entry stands under the ordinal; a refused update changes nothing.
+    /// Puts an entry in the place of one that is present, without memory. It is refused for its length, then where no
+    /// entry is present under the ordinal; a refused update changes nothing.
     pub fn update(&mut self, at: u32, entry: &[u8]) -> Result<(), EntryFault>
         requires values { length entry.now ≡ entry_len self.old.fields → IsTrue (have_values self.old.fields entry.now) }
         ensures accepted { OnOk result (update_refusal self.old at entry.now ≡ None) }
-        ensures ok { OnOk result (self.new ≡ changed self.old at (Some entry.now)) }
+        ensures ok { OnOk result (self.new ≡ with_entry_changed self.old at (Some entry.now)) }
         ensures fault { IfErr result (λ fault. update_refusal self.old at entry.now ≡ Some fault) }
         ensures err { OnErr result (self.new ≡ self.old) }
     {
@@ -233,11 +233,11 @@ impl DataSpace {
         Ok(())
     }
 
-    /// Deletes an entry, without memory; its ordinal stays. It is refused where no entry stands under the ordinal; a
-    /// refused delete changes nothing.
+    /// Deletes an entry, without memory; its ordinal stays. It is refused where no entry is present under the ordinal;
+    /// a refused delete changes nothing.
     pub fn delete(&mut self, at: u32) -> Result<(), EntryFault>
         ensures accepted { OnOk result (delete_refusal self.old at ≡ None) }
-        ensures ok { OnOk result (self.new ≡ changed self.old at None) }
+        ensures ok { OnOk result (self.new ≡ with_entry_changed self.old at None) }
         ensures fault { IfErr result (λ fault. delete_refusal self.old at ≡ Some fault) }
         ensures err { OnErr result (self.new ≡ self.old) }
     {
@@ -272,7 +272,7 @@ impl DataSpace {
         }
     }
 
-    /// Puts an entry, or None for a deleted one, under an ordinal, whatever stands there, without memory. What is no
+    /// Puts an entry, or None for a deleted one, under an ordinal, whatever is there now, without memory. What is no
     /// entry of the data space, for its ordinal, its length or its numeric fields, leaves it as it is.
     pub fn restore(&mut self, at: u32, entry: Option<&[u8]>)
         ensures { self.new ≡ restored self.old at (option_copied entry.entry) }
@@ -292,7 +292,7 @@ impl DataSpace {
         ensures found { IfSome result (λ at. IsSought self.now.entries how from at) }
         ensures none { IfNone result (IsNowhere self.now.entries how from) }
     {
-        match sought(self.records.standing(), how, from as usize) {
+        match sought(self.records.presence(), how, from as usize) {
             Some(at) => Some(at as u32),
             None => None,
         }

@@ -5,7 +5,7 @@ ghost use Rattle.s38_dataspaces.specs.Values.{have_values, is_valued};
 use s38_base::Attr;
 use s38_decimal::read_scalar;
 
-/// Whether bytes may stand in a field: a numeric one has a value, others hold any bytes.
+/// Whether a field may hold bytes: a numeric one has a value, others hold any bytes.
 pub fn is_valued(attr: Attr, bytes: &[u8]) -> bool
     ensures { result ≡ is_valued attr bytes.now }
 {

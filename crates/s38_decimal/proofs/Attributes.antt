@@ -5,7 +5,8 @@ use Rattle.std.proofs.lemmas.Bool.Decides.{nat_tests}
 use Rattle.std.proofs.lemmas.Bool.{cases_eq}
 use Rattle.s38_base.specs.declared.attr.Attr.{Attr}
 use Rattle.s38_base.specs.declared.attr.Attr.TheVariants.{Packed, Zoned, Binary, Chars, Pointer}
-use Rattle.s38_base.specs.Scalar.{digits_of, fraction_of, fits, fits_bytes, is_numeric}
+use Rattle.s38_base.specs.Scalar.{fits, fits_bytes}
+use Rattle.s38_base.specs.Attributes.{digits_of, fraction_of, is_numeric}
 use Rattle.s38_decimal.specs.Forms.{IsOf, is_decimal}
 use Rattle.s38_decimal.specs.Need.{has_one_fraction}
 use Rattle.s38_decimal.proofs.Powers.{tens_le}
@@ -18,15 +19,6 @@ digits_few (Zoned digits fraction) h = search (rules, tests)
 digits_few (Binary size) h = search (rules, tests)
 digits_few (Chars len) h = search rules
 digits_few Pointer h = search rules
-
--- a decimal attribute holds the numbers of so many digits
-pub fits_decimal : (attr : Attr) (z : ℤ) → IsTrue (is_numeric attr) → IsTrue (is_decimal attr) → unsigned_abs z < 10 ^ digits_of attr → IsTrue (fits attr z)
-unfolding fits
-fits_decimal (Packed digits fraction) z numeric h small = search (rules, tests)
-fits_decimal (Zoned digits fraction) z numeric h small = search (rules, tests)
-fits_decimal (Binary size) z numeric h small = search rules
-fits_decimal (Chars len) z numeric h small = search rules
-fits_decimal Pointer z numeric h small = search rules
 
 pub two_or_four : (size : ℕ) → IsTrue (is_numeric (Binary size)) → (size ≡ 2) ⊎ (size ≡ 4)
 two_or_four size h = ⊎_elim (λ e. inl e) (λ ne. inr (grind (arith, nat_tests))) (cases_eq size 2)
@@ -62,7 +54,7 @@ pub fits_numeric : (attr : Attr) (z : ℤ) → IsTrue (fits attr z) → IsTrue (
 unfolding fits
 fits_numeric attr z h = search rules
 
--- no more digits stand behind the point than there are
+-- no more digits are after the point than there are
 pub fraction_le : (attr : Attr) → IsTrue (is_numeric attr) → fraction_of attr ≤ digits_of attr
 fraction_le (Packed digits fraction) h = search (rules, tests)
 fraction_le (Zoned digits fraction) h = search (rules, tests)
@@ -93,7 +85,7 @@ IsOf-negative attr z h = record { numeric = h.numeric; digits = omega (arith, h.
     abs_negative (pos (suc n)) = refl
     abs_negative (negsuc n) = refl
 
--- what is compared: 31 digits at most, and no more behind the point
+-- what is compared: 31 digits at most, and no more after the point
 pub fits_magnitude : (attr : Attr) (z : ℤ) (n : ℕ) → IsTrue (fits attr z) → n ≡ unsigned_abs (cast_signed w128 (cast_unsigned w128 z)) → n < 10 ^ 31
 fits_magnitude attr z n h is =
     omega (arith, is, ap unsigned_abs (fits_same attr z h), fits_below attr z h, tens_le (digits_of attr) 31 (digits_few attr (fits_numeric attr z h)))

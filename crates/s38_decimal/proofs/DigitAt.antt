@@ -1,4 +1,4 @@
--- The digit of a number that has so many digits behind it.
+-- The digit of a number that has so many digits after it.
 use Rattle.std.proofs.Common.{◌≡◌, ℕ, ◌+◌, ◌-◌, ◌*◌, ◌/◌, ◌%◌, ◌^◌, ◌<◌, List, ◌++◌, length, get_or, map, true, false, ◌==◌, ap, sym, ◌∙◌, ⊎_elim, arith}
 use Rattle.std.specs.List.{range_with_len}
 use Rattle.std.proofs.Math.Nat.{div-div-eq-div-mul, mul-add-div, mul-add-mod_self_right, div-add-mod', div-one, one-le-pow, pow-zero}
@@ -31,7 +31,7 @@ digit_at-mod n i k below =
     digit_at-split (n / 10 ^ i) (10 ^ k) (10 ^ (i - k - 1)) (n % 10 ^ i) (one-le-pow k 10 (omega arith))
     ∙ ap (λ x. x / 10 ^ k % 10) (ap (λ p. n / 10 ^ i * p + n % 10 ^ i) (sym e) ∙ div-add-mod' n (10 ^ i))
 
--- digits that stand in front
+-- digits at the front
 pub front_digit : (xs ys : List ℕ) (f : ℕ → ℕ) (n k : ℕ) → xs ≡ map f (range_with_len 0 n) → k < n → get_or (xs ++ ys) k 0 ≡ f k
 front_digit xs ys f n k is below =
     get_or_append_left xs ys 0 k (omega (arith, ap length is, length-map-range_with_len f 0 n))
@@ -54,10 +54,6 @@ both_digits xs ys n m len low high is =
     ∙ get_or-map-range_with_len (digit_at 10 (n / 10 ^ 16)) 0 m (k - 16) (k - 16) 0 (omega arith) (omega arith)
     ∙ digit_at-div n 16 (k - 16) ∙ ap (λ j. digit_at 10 n j) (omega arith))
     (cases_lt k 16))
-
--- what is a digit is below ten
-pub digit_below : (x n k : ℕ) → x ≡ digit_at 10 n k → x < 10
-digit_below x n k is = omega arith
 
 -- ---- two digits at a time
 

@@ -10,9 +10,10 @@ use Rattle.std.proofs.Math.Nat.{div-add-mod', div-div-eq-div-mul, div-eq_of_lt, 
 use Rattle.s38_decimal.proofs.Attributes.{fits_below, fits_numeric, two_or_four}
 use Rattle.s38_base.specs.declared.attr.Attr.{Attr}
 use Rattle.s38_base.specs.declared.attr.Attr.TheVariants.{Packed, Zoned, Binary, Chars, Pointer}
-use Rattle.s38_base.specs.Scalar.{are_decimal, begins_right, bits_of, digit_at, digit_in, digits_of, fits, fits_bytes, half_byte, half_bytes_before, image_of, is_minus, is_numeric, is_sign, is_spelled, length_of, meaning_of, number_from, packed_byte, sign_in, sign_of, spelled, twos_complement, value_of, with_minus, zoned_byte}
+use Rattle.s38_base.specs.Scalar.{are_decimal, begins_right, bits_of, digit_at, digit_in, fits, fits_bytes, half_byte, half_bytes_before, is_minus, is_sign, is_spelled, meaning_of, number_from, packed_byte, scalar_image, sign_in, sign_of, spelled, twos_complement, value_of, with_minus, zoned_byte}
+use Rattle.s38_base.specs.Attributes.{digits_of, is_numeric, length_of}
 
--- the digits of n, the first of d, spell what stands before the others
+-- the digits of n, the first of d, spell what comes before the others
 from_digits : (base n d k : ℕ) (digit : ℕ → ℕ) → n < base ^ d → k ≤ d → ((i : ℕ) → i < d → digit i ≡ digit_at base n (d - 1 - i)) → number_from base digit k ≡ n / base ^ (d - k)
 from_digits base n d zero digit small h is =
     let e : d - 0 ≡ d = omega arith in
@@ -213,29 +214,29 @@ binary_again size z numeric =
 -- ---- all
 
 -- the length of what is written
-pub length-image : (attr : Attr) (z : ℤ) → IsTrue (fits attr z) → length (image_of attr z) ≡ length_of attr
-unfolding fits image_of
+pub length-image : (attr : Attr) (z : ℤ) → IsTrue (fits attr z) → length (scalar_image attr z) ≡ length_of attr
+unfolding fits scalar_image
 length-image (Packed d f) z h = length-map-range_with_len (packed_byte (d / 2) z) 0 (d / 2 + 1)
 length-image (Zoned d f) z h = length-map-range_with_len (zoned_byte d z) 0 d
 length-image (Binary size) z h = length-map-range_with_len (λ k. digit_at 256 (bits_of size z) (size - 1 - k)) 0 size
 length-image (Chars len) z h = search rules
 length-image Pointer z h = search rules
 
-pub meaning-image : (attr : Attr) (z : ℤ) → IsTrue (fits attr z) → meaning_of attr (image_of attr z) ≡ Some z
-unfolding fits image_of
+pub meaning-image : (attr : Attr) (z : ℤ) → IsTrue (fits attr z) → meaning_of attr (scalar_image attr z) ≡ Some z
+unfolding fits scalar_image
 meaning-image (Packed d f) z h = packed_again d f z (fits_below (Packed d f) z h)
 meaning-image (Zoned d f) z h = zoned_again d f z (search (rules, tests)) (fits_below (Zoned d f) z h)
 meaning-image (Binary size) z h = ap Some (binary_again size z (search rules) (search rules))
 meaning-image (Chars len) z h = search rules
 meaning-image Pointer z h = search rules
 
-pub value-image : (attr : Attr) (z : ℤ) → IsTrue (fits attr z) → value_of attr (image_of attr z) ≡ Some z
+pub value-image : (attr : Attr) (z : ℤ) → IsTrue (fits attr z) → value_of attr (scalar_image attr z) ≡ Some z
 unfolding value_of
 value-image attr z h =
     let numeric = true_is (is_numeric attr) (fits_numeric attr z h) in
-    let long = is_last (length (image_of attr z)) (length_of attr) (length-image attr z h) in
-    ap (λ b. if b && (length (image_of attr z) == length_of attr) then meaning_of attr (image_of attr z) else None) numeric
-    ∙ ap (λ b. if b then meaning_of attr (image_of attr z) else None) long
+    let long = is_last (length (scalar_image attr z)) (length_of attr) (length-image attr z h) in
+    ap (λ b. if b && (length (scalar_image attr z) == length_of attr) then meaning_of attr (scalar_image attr z) else None) numeric
+    ∙ ap (λ b. if b then meaning_of attr (scalar_image attr z) else None) long
     ∙ meaning-image attr z h
 
 pub ruleset images = (value-image, length-image)

@@ -18,7 +18,7 @@ sum_times x y (suc p) =
     ∙ sums_apart (x *ℤ pos p) (y *ℤ pos p) x y
     ∙ sym (ap (λ w. w +ℤ y *ℤ pos (suc p)) (times_suc x p) ∙ ap (λ w. x *ℤ pos p +ℤ x +ℤ w) (times_suc y p))
 
--- the sign stands before the product
+-- the minus of a factor is that of the product
 pub neg_times : (n p : ℕ) → neg_ℤ (pos n) *ℤ pos p ≡ neg_ℤ (pos (n * p))
 neg_times zero p =
     let e : 0 * p ≡ 0 = omega arith in

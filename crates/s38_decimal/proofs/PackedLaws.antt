@@ -129,7 +129,7 @@ four_decimal bytes a b c d a_is b_is c_is d_is a_few b_few c_few d_few =
     (pair_high (slice_index bytes 2 / 16) (slice_index bytes 2 % 16) c c_is c_few) (pair_low (slice_index bytes 2 / 16) (slice_index bytes 2 % 16) c c_is c_few))
     (pair_high (slice_index bytes 3 / 16) (slice_index bytes 3 % 16) d d_is d_few) (pair_low (slice_index bytes 3 / 16) (slice_index bytes 3 % 16) d d_is d_few)
 
--- ---- digits that begin behind the first half byte
+-- ---- digits that begin after the first half byte
 
 number_ext : (f g : ℕ → ℕ) (n : ℕ) → ((k : ℕ) → f k ≡ g k) → number_from 10 f n ≡ number_from 10 g n
 number_ext f g zero same = refl

@@ -7,7 +7,8 @@ use Rattle.std.proofs.lemmas.Nat.{pow-add}
 use Rattle.std.proofs.Math.Nat.{le-mul_of_pos_right, one-le-pow}
 use Rattle.std.specs.Int.{w128, cast_signed, cast_unsigned}
 use Rattle.s38_base.specs.declared.attr.Attr.{Attr}
-use Rattle.s38_base.specs.Scalar.{digits_of, fraction_of, fits}
+use Rattle.s38_base.specs.Scalar.{fits}
+use Rattle.s38_base.specs.Attributes.{digits_of, fraction_of}
 use Rattle.s38_decimal.specs.Need.{copy_need, product_need, scale_need}
 use Rattle.s38_decimal.specs.Values.{cut_or_rounded, exact, product_of, scaled_by, units_at, with_sign}
 use Rattle.s38_decimal.proofs.Attributes.{IsOf-fits, IsOf-negative, fits_below, fits_numeric, fits_same, fraction_le}

@@ -6,7 +6,8 @@ use Rattle.std.proofs.lemmas.Int.{unsigned_abs-mul}
 use Rattle.std.proofs.lemmas.Nat.{pow-add}
 use Rattle.std.proofs.Math.Nat.{one-le-pow, mul_comm, mul_assoc}
 use Rattle.s38_base.specs.declared.attr.Attr.{Attr}
-use Rattle.s38_base.specs.Scalar.{digits_of, fraction_of, fits}
+use Rattle.s38_base.specs.Scalar.{fits}
+use Rattle.s38_base.specs.Attributes.{digits_of, fraction_of}
 use Rattle.s38_decimal.specs.Need.{quotient_need}
 use Rattle.s38_decimal.specs.Values.{cut_or_rounded, exact, quotient_of, units_at, with_sign}
 use Rattle.s38_decimal.proofs.Attributes.{fits_below}

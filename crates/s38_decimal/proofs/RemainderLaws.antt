@@ -6,7 +6,7 @@ use Rattle.std.proofs.lemmas.Int.{unsigned_abs-mul, ints}
 use Rattle.std.proofs.Math.IntN.{*ℤ_comm, *ℤ-negsuc}
 use Rattle.std.proofs.Math.Nat.{div-add-mod, mod-le, mul-le-mul_right, mul-div-mul_right, mul-lt-mul_of_pos_right, mul_comm, one-le-pow, zero-div}
 use Rattle.s38_base.specs.declared.attr.Attr.{Attr}
-use Rattle.s38_base.specs.Scalar.{digits_of, fraction_of}
+use Rattle.s38_base.specs.Attributes.{digits_of, fraction_of}
 use Rattle.s38_decimal.proofs.Attributes.{fraction_le}
 use Rattle.s38_decimal.specs.Forms.{IsOf}
 use Rattle.s38_decimal.specs.Need.{longer_fraction, remainder_need}

@@ -9,7 +9,7 @@ use Rattle.std.proofs.Math.Nat.{le-mul_of_pos_right, one-le-pow}
 use Rattle.s38_decimal.specs.Values.{with_sign}
 use Rattle.s38_decimal.proofs.Powers.{tens_le}
 
--- a number of d digits with k zeros behind it
+-- a number of d digits with k zeros after it
 pub raised_le : (n d k t : ℕ) → n < 10 ^ d → d + k ≤ t → n * 10 ^ k ≤ 10 ^ t
 raised_le n d k t small enough = omega (arith, mul-le n (10 ^ k) (10 ^ d) (10 ^ k) (omega arith) (omega arith), pow-add 10 d k, tens_le (d + k) t enough)
 

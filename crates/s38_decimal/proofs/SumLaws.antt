@@ -5,7 +5,7 @@ use Rattle.std.proofs.lemmas.Int.{unsigned_abs-mul}
 use Rattle.std.proofs.lemmas.Nat.{pow-add}
 use Rattle.std.proofs.Math.Nat.{div-one, one-le-pow, mul_assoc, mul-le-mul_right}
 use Rattle.s38_base.specs.declared.attr.Attr.{Attr}
-use Rattle.s38_base.specs.Scalar.{digits_of, fraction_of}
+use Rattle.s38_base.specs.Attributes.{digits_of, fraction_of}
 use Rattle.std.proofs.Math.IntN.{sub_ℕ}
 use Rattle.s38_decimal.specs.Forms.{IsOf}
 use Rattle.s38_decimal.specs.Need.{longer_fraction, sum_need}
@@ -96,7 +96,7 @@ pub raised_is : (r x : ℤ) (behind f most own : ℕ) → r ≡ cast_signed w128
 raised_is r x behind f most own is small behind_is f_is =
     is ∙ ap (λ z. z *ℤ pos (10 ^ (behind - f))) (same x small) ∙ ap (λ n. x *ℤ pos (10 ^ (n - f))) behind_is ∙ ap (λ n. x *ℤ pos (10 ^ (most - n))) f_is
 
--- at one fraction the sum stands as it is
+-- at one fraction the sum stays as it is
 same_sign : (z : ℤ) → with_sign z (unsigned_abs z) ≡ z
 same_sign (pos n) = refl
 same_sign (negsuc n) = refl

@@ -2,7 +2,7 @@
 use Rattle.std.specs.Prelude.{ℕ, ◌-◌, ◌%◌, ◌^◌, max, ℤ, pos, unsigned_abs, ◌+ℤ◌, ◌*ℤ◌}
 use Rattle.s38_decimal.specs.Values.{with_sign}
 
--- x has f digits behind the point, and gets as many as f or g has
+-- x has f digits after the point, and gets as many as f or g has
 abbrev pub brought : ℕ → ℕ → ℤ → ℤ
 brought f g x = x *ℤ pos (10 ^ (max f g - f))
 

@@ -1,6 +1,6 @@
 -- Numbers in decimal digits.
 use Rattle.std.specs.Prelude.{◌<◌, ◌^◌, Bool, true, false, ℤ, IsTrue, nat_le, unsigned_abs}
-use Rattle.s38_base.specs.Scalar.{digits_of, is_numeric}
+use Rattle.s38_base.specs.Attributes.{digits_of, is_numeric}
 use Rattle.s38_base.specs.declared.attr.Attr.{Attr}
 use Rattle.s38_base.specs.declared.attr.Attr.TheVariants.{Packed, Zoned}
 

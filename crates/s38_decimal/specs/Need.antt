@@ -3,7 +3,7 @@ use Rattle.std.specs.Prelude.{ℕ, ◌+◌, ◌-◌, ◌==◌, ◌&&◌, max, Bo
 use Rattle.s38_base.specs.declared.attr.Attr.{Attr}
 use Rattle.s38_base.specs.declared.op.Op.{Op}
 use Rattle.s38_base.specs.declared.op.Op.TheVariants.{Addn, Subn, Mult, Div, Rem, Neg, Cpynv, Scale, Cmpnvb}
-use Rattle.s38_base.specs.Scalar.{digits_of, fraction_of}
+use Rattle.s38_base.specs.Attributes.{digits_of, fraction_of}
 
 -- the digits before the point
 abbrev pub whole_digits : Attr → ℕ
@@ -15,7 +15,7 @@ longer_fraction a b = max (fraction_of a) (fraction_of b)
 abbrev pub longer_whole : Attr → Attr → ℕ
 longer_whole a b = max (whole_digits a) (whole_digits b)
 
--- both numbers and the receiver have as many digits behind the point
+-- both numbers and the receiver have as many digits after the point
 abbrev pub has_one_fraction : Attr → Attr → Attr → Bool
 has_one_fraction a b to = (fraction_of a == fraction_of to) && (fraction_of b == fraction_of to)
 

@@ -3,7 +3,8 @@ use Rattle.std.specs.Prelude.{ℕ, ◌+◌, ◌*◌, ◌/◌, ◌^◌, ◌==◌,
 use Rattle.std.specs.Int.{int_signum}
 use Rattle.std.specs.Ordering.{int_cmp}
 use Rattle.std.specs.declared.cmp.Ordering.{Ordering}
-use Rattle.s38_base.specs.Scalar.{fits, fraction_of}
+use Rattle.s38_base.specs.Scalar.{fits}
+use Rattle.s38_base.specs.Attributes.{fraction_of}
 use Rattle.s38_decimal.specs.declared.dec.Dec.{Dec}
 use Rattle.s38_decimal.specs.declared.dec.Target.{Target}
 use Rattle.s38_decimal.specs.declared.dec.DecimalFault.{DecimalFault}
@@ -14,7 +15,7 @@ pub record Exact : Type 0 where
   pub top : ℤ
   pub bottom : ℕ
 
--- the value of units with so many digits behind the point
+-- the value of units with so many digits after the point
 abbrev pub exact : ℤ → ℕ → Exact
 exact units fraction = record { top = units; bottom = 10 ^ fraction }
 
@@ -50,7 +51,7 @@ abbrev pub with_sign : ℤ → ℕ → ℤ
 with_sign (pos _) n = pos n
 with_sign (negsuc _) n = neg_ℤ (pos n)
 
--- the units of a value with so many digits behind the point: cut, or rounded with halves away from zero
+-- the units of a value with so many digits after the point: cut, or rounded with halves away from zero
 abbrev pub units_at : Bool → ℕ → Exact → ℤ
 units_at round fraction e = with_sign e.top (cut_or_rounded round (unsigned_abs e.top * 10 ^ fraction) e.bottom)
 
@@ -67,16 +68,16 @@ scaled_by x (negsuc below) = record { top = x.top; bottom = x.bottom * 10 ^ (bel
 abbrev pub whole_part_of : Exact → ℤ
 whole_part_of x = units_at false 0 x
 
-abbrev pub order_of : Exact → Exact → Ordering
-order_of x y = int_cmp (x.top *ℤ pos y.bottom) (y.top *ℤ pos x.bottom)
+abbrev pub exact_order : Exact → Exact → Ordering
+exact_order x y = int_cmp (x.top *ℤ pos y.bottom) (y.top *ℤ pos x.bottom)
 
 -- a receiver takes units, or they don't fit
-abbrev pub held : Target → ℤ → Result ℤ DecimalFault
-held to units = if fits to.attr units then Ok units else Err Size
+abbrev pub held_units : Target → ℤ → Result ℤ DecimalFault
+held_units to units = if fits to.attr units then Ok units else Err Size
 
 -- what a receiver answers to a value
 abbrev pub answer : Target → Exact → Result ℤ DecimalFault
-answer to e = held to (units_at to.round (fraction_of to.attr) e)
+answer to e = held_units to (units_at to.round (fraction_of to.attr) e)
 
 abbrev pub is_zero : Exact → Bool
 is_zero x = unsigned_abs x.top == 0

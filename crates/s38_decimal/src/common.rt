@@ -1,5 +1,5 @@
 ghost use Rattle.std.specs.Prelude.{◌≡◌, ◌≤◌, ◌+◌, ◌-◌, ◌^◌, unsigned_abs};
-ghost use Rattle.s38_base.specs.Scalar.{digits_of, fraction_of};
+ghost use Rattle.s38_base.specs.Attributes.{digits_of, fraction_of};
 ghost use Rattle.s38_decimal.specs.Common.{brought};
 ghost use Rattle.s38_decimal.specs.Forms.{IsOf};
 ghost use Rattle.s38_decimal.specs.Need.{longer_fraction};

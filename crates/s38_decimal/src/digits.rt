@@ -1,5 +1,5 @@
 ghost use Rattle.std.specs.Prelude.{◌≡◌, ◌||◌, IsTrue, pos, negsuc, ◌≤ℤ◌};
-ghost use Rattle.s38_base.specs.Scalar.{is_numeric};
+ghost use Rattle.s38_base.specs.Attributes.{is_numeric};
 ghost use Rattle.s38_decimal.specs.Forms.{is_short};
 ghost use Rattle.s38_decimal.specs.Need.{has_one, has_one_fraction, has_receiver, has_second, longer_fraction, longer_whole, need_of, quotient_need, scale_need, whole_digits};
 
@@ -20,14 +20,14 @@ fn longer_whole(a: Attr, b: Attr) -> u8
     whole_digits(a).max(whole_digits(b))
 }
 
-/// How many digits stand behind the point of the one that has more.
+/// How many digits are after the point of the one that has more.
 pub fn longer_fraction(a: Attr, b: Attr) -> u8
     ensures { result ≡ longer_fraction a b }
 {
     a.fraction().max(b.fraction())
 }
 
-/// Both numbers and the receiver have as many digits behind the point.
+/// Both numbers and the receiver have as many digits after the point.
 #[inline(always)]
 pub fn has_one_fraction(a: Attr, b: Attr, to: Attr) -> bool
     ensures { result ≡ has_one_fraction a b to }

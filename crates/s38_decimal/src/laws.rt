@@ -1,5 +1,6 @@
 ghost use Rattle.std.specs.Prelude.{◌≡◌, IsTrue, Some, length};
-ghost use Rattle.s38_base.specs.Scalar.{fits, image_of, length_of, value_of};
+ghost use Rattle.s38_base.specs.Scalar.{fits, scalar_image, value_of};
+ghost use Rattle.s38_base.specs.Attributes.{length_of};
 
 use s38_base::Attr;
 
@@ -7,6 +8,6 @@ use s38_base::Attr;
 #[tactic(auto, using(crate::proofs::ImageLaws::images))]
 pub fn written_is_read(attr: Attr, units: i128)
     requires { IsTrue (fits attr units) }
-    ensures value { value_of attr (image_of attr units) ≡ Some units }
-    ensures long { length (image_of attr units) ≡ length_of attr }
+    ensures value { value_of attr (scalar_image attr units) ≡ Some units }
+    ensures long { length (scalar_image attr units) ≡ length_of attr }
 {}

@@ -1,13 +1,13 @@
 ghost use Rattle.std.specs.Prelude.{◌≡◌, ◌<◌, ◌≤◌, ◌-◌, ◌*◌, ◌^◌, max};
 ghost use Rattle.std.specs.Ordering.{nat_cmp};
-ghost use Rattle.s38_decimal.specs.Values.{exact_of, order_of};
+ghost use Rattle.s38_decimal.specs.Values.{exact_of, exact_order};
 
 use crate::dec::Dec;
 use crate::results::divided;
 use crate::tens::ten;
 use std::cmp::Ordering;
 
-/// Compares n / 10 ^ f and m / 10 ^ g by their whole parts, and then by what stands behind the point.
+/// Compares n / 10 ^ f and m / 10 ^ g by their whole parts, and then by what comes after the point.
 fn by_parts(n: u128, f: u8, m: u128, g: u8) -> Ordering
     requires first { f ≤ 31 }
     requires second { g ≤ 31 }
@@ -40,7 +40,7 @@ fn magnitudes(n: u128, f: u8, m: u128, g: u8) -> Ordering
 /// Compares two numbers, whatever their fractions.
 #[inline(never)]
 fn compare_any(a: Dec, b: Dec) -> Ordering
-    ensures { result ≡ order_of (exact_of a) (exact_of b) }
+    ensures { result ≡ exact_order (exact_of a) (exact_of b) }
 {
     let f = a.attr.fraction();
     let g = b.attr.fraction();
@@ -62,7 +62,7 @@ fn compare_any(a: Dec, b: Dec) -> Ordering
 /// Compares two numbers; any two have an order.
 #[inline(always)]
 pub fn compare(a: Dec, b: Dec) -> Ordering
-    ensures { result ≡ order_of (exact_of a) (exact_of b) }
+    ensures { result ≡ exact_order (exact_of a) (exact_of b) }
 {
     if a.attr.fraction() == b.attr.fraction() {
         return a.units.cmp(&b.units);

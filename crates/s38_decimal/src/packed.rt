@@ -1,8 +1,9 @@
 ghost use Rattle.std.specs.Prelude.{◌≡◌, ◌<◌, ◌≤◌, ◌+◌, ◌-◌, ◌*◌, ◌/◌, ◌%◌, ◌^◌, ◌&&◌, IfSome, IsTrue, None, Some, length, nat_lt, if◌then◌else◌};
 ghost use Rattle.s38_base.specs.declared.attr.Attr.{Attr};
-ghost use Rattle.s38_base.specs.Scalar.{are_decimal, begins_right, digit_in, half_byte, length_of, number_from};
+ghost use Rattle.s38_base.specs.Scalar.{are_decimal, begins_right, digit_in, half_byte, number_from};
+ghost use Rattle.s38_base.specs.Attributes.{length_of};
 
-/// The number that two half bytes spell by the byte that they stand in; 255 where one is no decimal digit.
+/// The number that two half bytes spell, by the byte that they are in; 255 where one is no decimal digit.
 static PAIRS: [u8; 256] = [
     0, 1, 2, 3, 4, 5, 6, 7, 8, 9, 255, 255, 255, 255, 255, 255, 10, 11, 12, 13, 14, 15, 16, 17, 18,
     19, 255, 255, 255, 255, 255, 255, 20, 21, 22, 23, 24, 25, 26, 27, 28, 29, 255, 255, 255, 255,

@@ -2,7 +2,8 @@ ghost use Rattle.std.specs.Prelude.{◌≡◌, ◌<◌, ◌≤◌, ◌*◌, ◌&
 ghost use Rattle.std.specs.Option.{option_map};
 ghost use Rattle.s38_base.specs.declared.attr.Attr.{Attr};
 ghost use Rattle.s38_decimal.specs.Forms.{is_decimal, is_short};
-ghost use Rattle.s38_base.specs.Scalar.{are_decimal, begins_right, digit_in, digits_of, fits, fits_bytes, half_byte, is_numeric, is_minus, is_sign, length_of, meaning_of, number_from, sign_in, spelled, twos_complement, value_of, with_minus};
+ghost use Rattle.s38_base.specs.Scalar.{are_decimal, begins_right, digit_in, fits, fits_bytes, half_byte, is_minus, is_sign, meaning_of, number_from, sign_in, spelled, twos_complement, value_of, with_minus};
+ghost use Rattle.s38_base.specs.Attributes.{digits_of, is_numeric, length_of};
 
 use crate::dec::{Dec, DecimalFault};
 use crate::packed::short_packed;
@@ -168,7 +169,7 @@ fn binary(bytes: &[u8], size: u8) -> i128
     }
 }
 
-/// The number that stands in the bytes, if one does.
+/// The number that the bytes hold, if they hold one.
 #[inline(always)]
 #[tactic(auto, unfolding(s38_base::specs::Scalar::value_of, s38_base::specs::Scalar::fits))]
 fn value(attr: Attr, bytes: &[u8]) -> Option<i128>
@@ -207,7 +208,7 @@ fn units_in(attr: Attr, bytes: &[u8]) -> Option<i128>
     }
 }
 
-/// The number that stands in the bytes. `DecimalData` exactly where they have no value.
+/// The number that the bytes hold. `DecimalData` exactly where they have no value.
 #[inline(always)]
 pub fn read_scalar(attr: Attr, bytes: &[u8]) -> Result<Dec, DecimalFault>
     ensures value { MatchResult result
@@ -236,7 +237,7 @@ fn short_units(digits: u8, fraction: u8, bytes: &[u8]) -> Option<i64>
     }
 }
 
-/// The packed number of up to 18 digits that stands in the bytes. None exactly where the attribute is another one or
+/// The packed number of up to 18 digits that the bytes hold. None exactly where the attribute is another one or
 /// the bytes have no value.
 #[inline(always)]
 #[tactic(auto, unfolding(s38_base::specs::Scalar::value_of))]

@@ -1,6 +1,6 @@
 ghost use Rattle.std.specs.Prelude.{◌≡◌, ◌<◌, ◌≤◌, ◌+◌, ◌-◌, ◌*◌, ◌/◌, ◌%◌, ◌^◌, IfOk, IsTrue, unsigned_abs};
 ghost use Rattle.s38_base.specs.Scalar.{fits};
-ghost use Rattle.s38_decimal.specs.Values.{cut_or_rounded, held, with_sign};
+ghost use Rattle.s38_decimal.specs.Values.{cut_or_rounded, held_units, with_sign};
 
 use crate::dec::{DecimalFault, Target};
 use crate::tens::ten;
@@ -77,7 +77,7 @@ fn whole(round: bool, n: u128, m: u128, up: u8, down: u8) -> u128
 /// The receiver takes the units, or they don't fit.
 #[inline(always)]
 pub fn held(to: Target, units: i128) -> Result<i128, DecimalFault>
-    ensures value { result ≡ held to units }
+    ensures value { result ≡ held_units to units }
     ensures fits { IfOk result (λ units. IsTrue (fits to.attr units)) }
 {
     if fits(to.attr, units) {
@@ -94,7 +94,7 @@ pub fn answer(to: Target, top: i128, bottom: u128, up: u8, down: u8) -> Result<i
     requires down_few { down - up ≤ 38 }
     requires top_room { unsigned_abs top * 10 ^ (up - down) ≤ 10 ^ 38 }
     requires bottom_room { bottom * 10 ^ (down - up) ≤ 10 ^ 38 }
-    ensures exact { result ≡ held to
+    ensures exact { result ≡ held_units to
         (with_sign top (cut_or_rounded to.round (unsigned_abs top * 10 ^ up) (bottom * 10 ^ down))) }
     ensures fits { IfOk result (λ units. IsTrue (fits to.attr units)) }
 {

@@ -3,7 +3,7 @@ ghost use Rattle.std.specs.Prelude.{◌≡◌, ◌<◌, ◌≤◌, ◌^◌, ◌+
 ghost use Rattle.std.specs.Ordering.{int_cmp};
 ghost use Rattle.s38_base.specs.Scalar.{fits};
 ghost use Rattle.s38_decimal.specs.Need.{sum_need};
-ghost use Rattle.s38_decimal.specs.Values.{answer, exact_of, order_of, sum_of};
+ghost use Rattle.s38_decimal.specs.Values.{answer, exact_of, exact_order, sum_of};
 
 use crate::dec::{Dec, DecimalFault, Target};
 use crate::digits::has_one_fraction;
@@ -48,7 +48,7 @@ fn short_sum(a: i128, b: i128) -> i128
 pub fn compare_short(a: Dec, b: Dec) -> Ordering
     requires first { unsigned_abs a.units < 10 ^ 18 }
     requires second { unsigned_abs b.units < 10 ^ 18 }
-    ensures { result ≡ order_of (exact_of a) (exact_of b) }
+    ensures { result ≡ exact_order (exact_of a) (exact_of b) }
 {
     if a.attr.fraction() == b.attr.fraction() {
         return short_order(a.units, b.units);

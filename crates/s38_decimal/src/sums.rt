@@ -1,5 +1,6 @@
 ghost use Rattle.std.specs.Prelude.{◌≡◌, ◌≤◌, IfOk, IsTrue};
-ghost use Rattle.s38_base.specs.Scalar.{fits, fraction_of};
+ghost use Rattle.s38_base.specs.Scalar.{fits};
+ghost use Rattle.s38_base.specs.Attributes.{fraction_of};
 ghost use Rattle.s38_decimal.specs.Common.{common_sum};
 ghost use Rattle.s38_decimal.specs.Forms.{IsOf};
 ghost use Rattle.s38_decimal.specs.Need.{order_need, sum_need};

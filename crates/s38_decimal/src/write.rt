@@ -1,6 +1,7 @@
 ghost use Rattle.std.specs.Prelude.{◌≡◌, ◌<◌, ◌≤◌, ◌+◌, ◌-◌, ◌*◌, ◌/◌, ◌%◌, ◌^◌, ◌==◌, ◌||◌, ℕ, Ok, Err, IsTrue, length, map, slice_index, unsigned_abs, if◌then◌else◌};
 ghost use Rattle.std.specs.List.{range_with_len};
-ghost use Rattle.s38_base.specs.Scalar.{bits_of, digit_at, fits, fits_bytes, image_of, is_numeric, length_of, sign_of};
+ghost use Rattle.s38_base.specs.Scalar.{bits_of, digit_at, fits, fits_bytes, scalar_image, sign_of};
+ghost use Rattle.s38_base.specs.Attributes.{is_numeric, length_of};
 ghost use Rattle.s38_decimal.specs.Images.{packed_with, zoned_with};
 
 use crate::dec::DecimalFault;
@@ -188,11 +189,11 @@ fn write_binary(units: i128, into: &mut [u8])
 }
 
 #[inline(never)]
-#[tactic(auto, unfolding(s38_base::specs::Scalar::fits, s38_base::specs::Scalar::image_of))]
+#[tactic(auto, unfolding(s38_base::specs::Scalar::fits, s38_base::specs::Scalar::scalar_image))]
 fn write_image(attr: Attr, units: i128, into: &mut [u8])
     requires long { length into.old ≡ length_of attr }
     requires fits { IsTrue (fits attr units) }
-    ensures { into.new ≡ image_of attr units }
+    ensures { into.new ≡ scalar_image attr units }
 {
     let number = units.unsigned_abs();
     let sign = sign_of(units);
@@ -208,7 +209,7 @@ pub fn write_scalar(attr: Attr, units: i128, into: &mut [u8]) -> Result<(), Deci
     requires numeric { IsTrue (is_numeric attr) }
     requires long { length into.old ≡ length_of attr }
     ensures answer { result ≡ (if fits attr units then Ok tt else Err DecimalFault.Size) }
-    ensures bytes { into.new ≡ (if fits attr units then image_of attr units else into.old) }
+    ensures bytes { into.new ≡ (if fits attr units then scalar_image attr units else into.old) }
 {
     if !fits(attr, units) {
         return Err(DecimalFault::Size);
@@ -219,11 +220,11 @@ pub fn write_scalar(attr: Attr, units: i128, into: &mut [u8]) -> Result<(), Deci
 
 /// Writes a number that its attribute holds.
 #[inline(always)]
-#[tactic(auto, unfolding(s38_base::specs::Scalar::fits, s38_base::specs::Scalar::image_of))]
+#[tactic(auto, unfolding(s38_base::specs::Scalar::fits, s38_base::specs::Scalar::scalar_image))]
 pub fn write_fitting(attr: Attr, units: i128, into: &mut [u8])
     requires long { length into.old ≡ length_of attr }
     requires fits { IsTrue (fits attr units) }
-    ensures { into.new ≡ image_of attr units }
+    ensures { into.new ≡ scalar_image attr units }
 {
     match attr {
         Attr::Packed { digits, .. } if digits <= 18 => {

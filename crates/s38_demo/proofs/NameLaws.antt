@@ -9,7 +9,7 @@ use Rattle.std.specs.Prelude.{decimal}
 use Rattle.std.specs.Str.{bytes_eq}
 use Rattle.s38_code.specs.declared.deck.Job.{Job}
 use Rattle.s38_template.specs.Grammar.{are_new, has, name_of, name_of_job, template_names}
-use Rattle.s38_demo.specs.GeneratedDeck.{generated, job_of, job_of_post, post, post_head, post_name, setup, total, up_to}
+use Rattle.s38_demo.specs.GeneratedDeck.{generated, generated_job, job_of_post, post, post_head, post_name, setup, total, up_to}
 use Rattle.s38_demo.proofs.CheckedLaws.{PostFacts, post_facts}
 
 abbrev pub setup_name : List ℕ
@@ -73,7 +73,7 @@ has_post a (suc k) j low high =
 
 -- jobs of postings from a on, and that of the total
 abbrev pub jobs_from : ℕ → ℕ → List Job
-jobs_from a k = map job_of_post (range_with_len a k) ++ job_of 3 total_name ∷ []
+jobs_from a k = map job_of_post (range_with_len a k) ++ generated_job 3 total_name ∷ []
 
 found_from : (n a k : ℕ) → 1 ≤ a → a + k ≤ n + 1 → list_all (λ (job : Job). has (names n) job.template) (jobs_from a k) ≡ true
 found_from n a zero low high = and_from (has (names n) total_name) true (has_last (setup_name ∷ map post_name (range_with_len 1 n)) total_name) refl

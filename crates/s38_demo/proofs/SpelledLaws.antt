@@ -10,14 +10,14 @@ use Rattle.s38_code.specs.declared.deck.Deck.{Deck}
 use Rattle.s38_code.specs.declared.deck.Job.{Job}
 use Rattle.s38_words.specs.Name.{is_declared_name}
 use Rattle.s38_base.specs.NameText.{is_name}
-use Rattle.s38_template.specs.Grammar.{FitJobs, IsTemplate, SayEach, Says, Spells, are_new, are_numbered, goes_on, is_action, is_budget, is_declaration, is_job, is_kept, is_plain, is_step, labels_in, labels_said, acts, stage_lines}
+use Rattle.s38_template.specs.Grammar.{FitJobs, IsTemplate, SayEach, Says, Spells, are_new, are_numbered, goes_on, is_act_line, is_action, is_budget, is_declaration, is_job, is_kept, is_step, labels_in, labels_said, line_is_plain, stage_lines}
 use Rattle.s38_template.specs.Grammar as grammar
 use Rattle.s38_template.specs.Lines.{end_line, job_word, line_of}
 use Rattle.s38_template.specs.declared.said.Line.{Line}
 use Rattle.s38_template.specs.declared.said.Line.TheVariants.{Program, Declare, Label, Act, End, Stage, Job as JobLine}
 use Rattle.s38_template.proofs.Options.{all_weaker}
-use Rattle.s38_demo.specs.GeneratedDeck.{before_posts, behind_posts, deck_lines, deck_of, generated, job_line, job_of, job_of_post, post, post_back, post_front, post_head, post_job, post_jobs, post_name, post_sum, posts, setup, stage, text_of, total, up_to, with_feed}
-use Rattle.s38_demo.proofs.CheckedLaws.{PostFacts, back_acts, back_good, before_good, begins, behind_good, front_acts, front_declares, front_good, is_good, post_facts, setup_acts, setup_begins, setup_declares, setup_good, setup_short, total_acts, total_begins, total_declares, total_good, total_short}
+use Rattle.s38_demo.specs.GeneratedDeck.{after_posts, before_posts, deck_of, generated, generated_job, generated_job_line, generated_lines, job_of_post, line_with_feed, post, post_back, post_front, post_head, post_job, post_jobs, post_name, post_sum, posts, setup, stage, text_of_lines, total, up_to}
+use Rattle.s38_demo.proofs.CheckedLaws.{PostFacts, after_good, back_acts, back_good, before_good, begins, front_acts, front_declares, front_good, is_good, post_facts, setup_acts, setup_begins, setup_declares, setup_good, setup_short, total_acts, total_begins, total_declares, total_good, total_short}
 use Rattle.s38_demo.proofs.GeneratedLaws.{text_both}
 use Rattle.s38_demo.proofs.NameLaws.{job_names, jobs_found, jobs_from, names, names_are, names_new, setup_name, total_name}
 
@@ -52,7 +52,7 @@ begins_said (Some End) h = cc
 begins_said (Some Stage) h = cc
 begins_said (Some (JobLine said)) h = cc
 
-acts_said : (o : Option Line) → acts o ≡ true → o ≡ Some Act
+acts_said : (o : Option Line) → is_act_line o ≡ true → o ≡ Some Act
 acts_said None h = cc
 acts_said (Some (Program name)) h = cc
 acts_said (Some (Declare in_range)) h = cc
@@ -127,49 +127,49 @@ jobs_good a zero low high = refl
 jobs_good a (suc k) low high =
     and_from (is_good (post_job a)) (list_all is_good (map post_job (range_with_len (a + 1) k))) (post_facts a low (omega (arith, high))).job (jobs_good (a + 1) k (omega (arith, low)) (omega (arith, high)))
 
-lines_good : (n : ℕ) → n ≤ 200 → list_all is_good (deck_lines n) ≡ true
+lines_good : (n : ℕ) → n ≤ 200 → list_all is_good (generated_lines n) ≡ true
 lines_good n last =
-    all_both is_good setup (posts n ++ (total ++ (before_posts ++ (post_jobs n ++ behind_posts)))) setup_good
-    (all_both is_good (posts n) (total ++ (before_posts ++ (post_jobs n ++ behind_posts))) (posts_good 1 n (omega arith) (omega (arith, last)))
-    (all_both is_good total (before_posts ++ (post_jobs n ++ behind_posts)) total_good
-    (all_both is_good before_posts (post_jobs n ++ behind_posts) before_good
-    (all_both is_good (post_jobs n) behind_posts (jobs_good 1 n (omega arith) (omega (arith, last))) behind_good))))
+    all_both is_good setup (posts n ++ (total ++ (before_posts ++ (post_jobs n ++ after_posts)))) setup_good
+    (all_both is_good (posts n) (total ++ (before_posts ++ (post_jobs n ++ after_posts))) (posts_good 1 n (omega arith) (omega (arith, last)))
+    (all_both is_good total (before_posts ++ (post_jobs n ++ after_posts)) total_good
+    (all_both is_good before_posts (post_jobs n ++ after_posts) before_good
+    (all_both is_good (post_jobs n) after_posts (jobs_good 1 n (omega arith) (omega (arith, last))) after_good))))
 
-good_plain : (line : List ℕ) → is_good line ≡ true → is_plain line ≡ true
-good_plain line h = (and_parts (is_plain line) (is_kept line) h).0
+good_plain : (line : List ℕ) → is_good line ≡ true → line_is_plain line ≡ true
+good_plain line h = (and_parts (line_is_plain line) (is_kept line) h).0
 
 good_kept : (line : List ℕ) → is_good line ≡ true → is_kept line ≡ true
-good_kept line h = (and_parts (is_plain line) (is_kept line) h).1
+good_kept line h = (and_parts (line_is_plain line) (is_kept line) h).1
 
 -- ---- the length of the text
 
-posts_short : (a k : ℕ) → 1 ≤ a → a + k ≤ 201 → length (text_of (flat_map post (range_with_len a k))) ≤ 1000 * k
+posts_short : (a k : ℕ) → 1 ≤ a → a + k ≤ 201 → length (text_of_lines (flat_map post (range_with_len a k))) ≤ 1000 * k
 posts_short a zero low high = omega arith
 posts_short a (suc k) low high =
     let rest : List (List ℕ) = flat_map post (range_with_len (a + 1) k) in
-    omega (arith, ap length (text_both (post a) rest), length-append (text_of (post a)) (text_of rest), (post_facts a low (omega (arith, high))).text_short, posts_short (a + 1) k (omega (arith, low)) (omega (arith, high)))
+    omega (arith, ap length (text_both (post a) rest), length-append (text_of_lines (post a)) (text_of_lines rest), (post_facts a low (omega (arith, high))).text_short, posts_short (a + 1) k (omega (arith, low)) (omega (arith, high)))
 
-jobs_short : (a k : ℕ) → 1 ≤ a → a + k ≤ 201 → length (text_of (map post_job (range_with_len a k))) ≤ 100 * k
+jobs_short : (a k : ℕ) → 1 ≤ a → a + k ≤ 201 → length (text_of_lines (map post_job (range_with_len a k))) ≤ 100 * k
 jobs_short a zero low high = omega arith
 jobs_short a (suc k) low high =
     let rest : List (List ℕ) = map post_job (range_with_len (a + 1) k) in
-    omega (arith, length-append (with_feed (post_job a)) (text_of rest), (post_facts a low (omega (arith, high))).job_short, jobs_short (a + 1) k (omega (arith, low)) (omega (arith, high)))
+    omega (arith, length-append (line_with_feed (post_job a)) (text_of_lines rest), (post_facts a low (omega (arith, high))).job_short, jobs_short (a + 1) k (omega (arith, low)) (omega (arith, high)))
 
-both_long : (xs ys : List (List ℕ)) → length (text_of (xs ++ ys)) ≡ length (text_of xs) + length (text_of ys)
-both_long xs ys = ap length (text_both xs ys) ∙ length-append (text_of xs) (text_of ys)
+both_long : (xs ys : List (List ℕ)) → length (text_of_lines (xs ++ ys)) ≡ length (text_of_lines xs) + length (text_of_lines ys)
+both_long xs ys = ap length (text_both xs ys) ∙ length-append (text_of_lines xs) (text_of_lines ys)
 
-deck_short : (n : ℕ) → n ≤ 200 → length (text_of (deck_lines n)) ≤ 4194304
+deck_short : (n : ℕ) → n ≤ 200 → length (text_of_lines (generated_lines n)) ≤ 4194304
 deck_short n last =
-    let before_short : length (text_of before_posts) ≤ 100 = omega arith in
-    let behind_short : length (text_of behind_posts) ≤ 100 = omega arith in
+    let before_short : length (text_of_lines before_posts) ≤ 100 = omega arith in
+    let behind_short : length (text_of_lines after_posts) ≤ 100 = omega arith in
     omega (
       arith,
       last,
-      both_long setup (posts n ++ (total ++ (before_posts ++ (post_jobs n ++ behind_posts)))),
-      both_long (posts n) (total ++ (before_posts ++ (post_jobs n ++ behind_posts))),
-      both_long total (before_posts ++ (post_jobs n ++ behind_posts)),
-      both_long before_posts (post_jobs n ++ behind_posts),
-      both_long (post_jobs n) behind_posts,
+      both_long setup (posts n ++ (total ++ (before_posts ++ (post_jobs n ++ after_posts)))),
+      both_long (posts n) (total ++ (before_posts ++ (post_jobs n ++ after_posts))),
+      both_long total (before_posts ++ (post_jobs n ++ after_posts)),
+      both_long before_posts (post_jobs n ++ after_posts),
+      both_long (post_jobs n) after_posts,
       setup_short,
       total_short,
       before_short,
@@ -180,14 +180,14 @@ deck_short n last =
 
 -- ---- jobs
 
-says_job : (number : ℕ) (name : List ℕ) → Says (job_line name) (job_of number name)
+says_job : (number : ℕ) (name : List ℕ) → Says (generated_job_line name) (generated_job number name)
 says_job number name = inr (refl, ap (λ t. job_word ++ (name ++ (codes " USER QSECOFR RUN " ++ t))) (sym (append-nil name)))
 
-says_from : (a k : ℕ) → SayEach (map post_job (range_with_len a k) ++ job_line total_name ∷ []) (jobs_from a k)
+says_from : (a k : ℕ) → SayEach (map post_job (range_with_len a k) ++ generated_job_line total_name ∷ []) (jobs_from a k)
 says_from a zero = (says_job 3 total_name, tt)
 says_from a (suc k) = (says_job 2 (post_name a), says_from (a + 1) k)
 
-own_name : (name : List ℕ) → is_declared_name name ≡ true → is_job (job_of 2 name) ≡ true
+own_name : (name : List ℕ) → is_declared_name name ≡ true → is_job (generated_job 2 name) ≡ true
 own_name name h =
     and_from (is_declared_name name) _ h (and_from (is_name (codes "QSECOFR")) _ refl (and_from (is_declared_name name) _ h refl))
 
@@ -213,15 +213,15 @@ jobs_fit n first last = record {
 }
 
 abbrev job_lines : ℕ → List (List ℕ)
-job_lines n = job_line setup_name ∷ (map post_job (up_to n) ++ job_line total_name ∷ [])
+job_lines n = generated_job_line setup_name ∷ (map post_job (up_to n) ++ generated_job_line total_name ∷ [])
 
-staged_from : (a k : ℕ) → stage_lines 2 (map post_job (range_with_len a k) ++ job_line total_name ∷ []) (jobs_from a k) ≡ map post_job (range_with_len a k) ++ behind_posts
+staged_from : (a k : ℕ) → stage_lines 2 (map post_job (range_with_len a k) ++ generated_job_line total_name ∷ []) (jobs_from a k) ≡ map post_job (range_with_len a k) ++ after_posts
 staged_from a zero = refl
 staged_from a (suc k) = ap (λ l. post_job a ∷ l) (staged_from (a + 1) k)
 
-staged : (n : ℕ) → 1 ≤ n → stage_lines 0 (job_lines n) (generated n).jobs ≡ before_posts ++ (post_jobs n ++ behind_posts)
+staged : (n : ℕ) → 1 ≤ n → stage_lines 0 (job_lines n) (generated n).jobs ≡ before_posts ++ (post_jobs n ++ after_posts)
 staged zero first = absurd (omega (arith, first))
-staged (suc n) first = ap (λ l. stage ∷ job_line setup_name ∷ stage ∷ post_job 1 ∷ l) (staged_from 2 n)
+staged (suc n) first = ap (λ l. stage ∷ generated_job_line setup_name ∷ stage ∷ post_job 1 ∷ l) (staged_from 2 n)
 
 -- ---- the deck
 
@@ -230,9 +230,9 @@ templates_lines a zero = append-nil total
 templates_lines a (suc k) =
     ap (λ l. post a ++ l) (templates_lines (a + 1) k) ∙ sym (append_assoc (post a) (flat_map post (range_with_len (a + 1) k)) total)
 
-lines_are : (n : ℕ) → 1 ≤ n → deck_lines n ≡ grammar.deck_lines (generated n) (job_lines n)
+lines_are : (n : ℕ) → 1 ≤ n → generated_lines n ≡ grammar.deck_lines (generated n) (job_lines n)
 lines_are n first =
-    let jobs : List (List ℕ) = before_posts ++ (post_jobs n ++ behind_posts) in
+    let jobs : List (List ℕ) = before_posts ++ (post_jobs n ++ after_posts) in
     ap (λ l. setup ++ l) (sym (append_assoc (posts n) total jobs))
     ∙ sym (append_assoc setup (posts n ++ total) jobs)
     ∙ ap (λ l. (setup ++ l) ++ jobs) (sym (templates_lines 1 n))
@@ -244,16 +244,16 @@ few_of f x y n = omega (arith, length-append (map f (up_to n)) (y ∷ []), lengt
 pub generated_is_spelled : (n : ℕ) → 1 ≤ n → n ≤ 200 → Spells (deck_of n) (generated n)
 unfolding deck_of
 generated_is_spelled n first last = record {
-  lines = deck_lines n;
+  lines = generated_lines n;
   job_lines = job_lines n;
   ended = refl;
   small = deck_short n last;
-  plain = all_weaker is_good is_plain good_plain (deck_lines n) (lines_good n last);
-  said = filter_all is_kept (deck_lines n) (all_weaker is_good is_kept good_kept (deck_lines n) (lines_good n last)) ∙ lines_are n first;
+  plain = all_weaker is_good line_is_plain good_plain (generated_lines n) (lines_good n last);
+  said = filter_all is_kept (generated_lines n) (all_weaker is_good is_kept good_kept (generated_lines n) (lines_good n last)) ∙ lines_are n first;
   says = (says_job 1 setup_name, says_from 1 n);
   templates = (setup_template, templates_from 1 n (omega arith) (omega (arith, last)));
   few_templates = omega (arith, last, few_of post setup total n);
   apart = ap (are_new []) (names_are n last) ∙ names_new n last;
   jobs = subst (λ (ns : List (List ℕ)). FitJobs ns [] 0 (generated n).jobs) (sym (names_are n last)) (jobs_fit n first last);
-  few_jobs = omega (arith, last, few_of job_of_post (job_of 1 setup_name) (job_of 3 total_name) n);
+  few_jobs = omega (arith, last, few_of job_of_post (generated_job 1 setup_name) (generated_job 3 total_name) n);
 }

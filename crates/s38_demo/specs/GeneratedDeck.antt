@@ -40,7 +40,7 @@ post_name j = codes "POST" ++ decimal j
 abbrev pub post_head : ℕ → List ℕ
 post_head j = codes "PROGRAM " ++ post_name j
 
--- what stands before the sum
+-- the text before the sum
 unfoldable pub post_front : List (List ℕ)
 post_front =
     codes "DCL C PTR"
@@ -62,7 +62,7 @@ post_front =
 abbrev pub post_sum : ℕ → List ℕ
 post_sum j = codes "ADDN V,V," ++ decimal (amount j)
 
--- what stands behind it
+-- the text after it
 unfoldable pub post_back : List (List ℕ)
 post_back =
     codes "UPDSEN K,V"
@@ -97,11 +97,11 @@ abbrev pub stage : List ℕ
 stage = codes "STAGE"
 
 -- a job of the security officer runs the template of its name
-abbrev pub job_line : List ℕ → List ℕ
-job_line name = codes "JOB " ++ (name ++ (codes " USER QSECOFR RUN " ++ name))
+abbrev pub generated_job_line : List ℕ → List ℕ
+generated_job_line name = codes "JOB " ++ (name ++ (codes " USER QSECOFR RUN " ++ name))
 
 abbrev pub post_job : ℕ → List ℕ
-post_job j = job_line (post_name j)
+post_job j = generated_job_line (post_name j)
 
 -- ---- the deck
 
@@ -117,37 +117,37 @@ post_jobs n = map post_job (up_to n)
 
 -- the stage of SETUP, and the next one's line
 abbrev pub before_posts : List (List ℕ)
-before_posts = stage ∷ job_line (codes "SETUP") ∷ stage ∷ []
+before_posts = stage ∷ generated_job_line (codes "SETUP") ∷ stage ∷ []
 
 -- the stage of TOTAL
-abbrev pub behind_posts : List (List ℕ)
-behind_posts = stage ∷ job_line (codes "TOTAL") ∷ []
+abbrev pub after_posts : List (List ℕ)
+after_posts = stage ∷ generated_job_line (codes "TOTAL") ∷ []
 
 -- the templates, and then three stages of jobs
-abbrev pub deck_lines : ℕ → List (List ℕ)
-deck_lines n = setup ++ (posts n ++ (total ++ (before_posts ++ (post_jobs n ++ behind_posts))))
+abbrev pub generated_lines : ℕ → List (List ℕ)
+generated_lines n = setup ++ (posts n ++ (total ++ (before_posts ++ (post_jobs n ++ after_posts))))
 
 -- a line and its line feed
-abbrev pub with_feed : List ℕ → List ℕ
-with_feed line = line ++ 10 ∷ []
+abbrev pub line_with_feed : List ℕ → List ℕ
+line_with_feed line = line ++ 10 ∷ []
 
-abbrev pub text_of : List (List ℕ) → List ℕ
-text_of lines = flat_map with_feed lines
+abbrev pub text_of_lines : List (List ℕ) → List ℕ
+text_of_lines lines = flat_map line_with_feed lines
 
 unfoldable pub deck_of : ℕ → List ℕ
-deck_of n = text_of (deck_lines n)
+deck_of n = text_of_lines (generated_lines n)
 
 -- ---- the deck that this text spells
 
 -- a job with the default budget and an empty list of contexts
-abbrev pub job_of : ℕ → List ℕ → Job
-job_of stage name = record { name = name; user = codes "QSECOFR"; template = name; budget = 1000000; contexts = []; stage = stage }
+abbrev pub generated_job : ℕ → List ℕ → Job
+generated_job stage name = record { name = name; user = codes "QSECOFR"; template = name; budget = 1000000; contexts = []; stage = stage }
 
 abbrev pub job_of_post : ℕ → Job
-job_of_post j = job_of 2 (post_name j)
+job_of_post j = generated_job 2 (post_name j)
 
 abbrev pub generated : ℕ → Deck
 generated n = record {
   templates = setup ∷ (map post (up_to n) ++ total ∷ []);
-  jobs = job_of 1 (codes "SETUP") ∷ (map job_of_post (up_to n) ++ job_of 3 (codes "TOTAL") ∷ []);
+  jobs = generated_job 1 (codes "SETUP") ∷ (map job_of_post (up_to n) ++ generated_job 3 (codes "TOTAL") ∷ []);
 }

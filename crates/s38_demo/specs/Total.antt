@@ -25,17 +25,17 @@ asks_entry (Act depth request) = is_retdsen request.op
 asks_entry _ = false
 
 -- the bytes that came back
-abbrev pub bytes_in : List Val → Option (List ℕ)
-bytes_in (Bytes bytes ∷ values) = Some bytes
-bytes_in _ = None
+abbrev pub bytes_in_values : List Val → Option (List ℕ)
+bytes_in_values (Bytes bytes ∷ values) = Some bytes
+bytes_in_values _ = None
 
-abbrev pub bytes_of : Reply → Option (List ℕ)
-bytes_of (Done values) = bytes_in values
-bytes_of _ = None
+abbrev pub reply_bytes : Reply → Option (List ℕ)
+reply_bytes (Done values) = bytes_in_values values
+reply_bytes _ = None
 
 -- what a process was given by a RETDSEN
 abbrev pub given : ℕ → Entry → Option (List ℕ)
-given process e = if (e.process == process) && asks_entry e.event then bytes_of e.reply else None
+given process e = if (e.process == process) && asks_entry e.event then reply_bytes e.reply else None
 
 -- what process n + 2, the last of the deck, was given first
 abbrev pub total_bytes : ℕ → List Entry → Option (List ℕ)

@@ -1,6 +1,6 @@
 ghost use Rattle.std.specs.Prelude.{◌≡◌, ◌≤◌, ◌++◌, IfOk, OnOk};
 ghost use Rattle.s38_template.specs.Grammar.{Spells};
-ghost use Rattle.s38_demo.specs.GeneratedDeck.{amount, deck_lines, deck_of, generated, job_line, post, post_back, post_front, post_head, post_job, post_jobs, post_name, post_sum, posts, setup, stage, text_of, total, with_feed};
+ghost use Rattle.s38_demo.specs.GeneratedDeck.{amount, deck_of, generated, generated_job_line, generated_lines, line_with_feed, post, post_back, post_front, post_head, post_job, post_jobs, post_name, post_sum, posts, setup, stage, text_of_lines, total};
 
 use crate::text::{add, add_line, add_lines, add_number};
 use s38_base::NoMemory;
@@ -27,7 +27,7 @@ const SETUP: &[&[u8]] = &[
     b"END",
 ];
 
-/// What stands in a posting before the sum.
+/// The text of a posting before the sum.
 const POST_FRONT: &[&[u8]] = &[
     b"DCL C PTR",
     b"DCL D PTR",
@@ -45,7 +45,7 @@ const POST_FRONT: &[&[u8]] = &[
     b"RETDSEN V,K",
 ];
 
-/// What stands behind it.
+/// The text after it.
 const POST_BACK: &[&[u8]] = &[b"UPDSEN K,V", b"COMMIT B", b"UNLOCK D,LENR", b"RTX", b"END"];
 
 const TOTAL: &[&[u8]] = &[
@@ -66,21 +66,21 @@ const TOTAL: &[&[u8]] = &[
 /// Adds the lines of the template of SETUP.
 #[tactic(auto, unfolding(crate::specs::GeneratedDeck::setup))]
 fn add_setup(text: &mut Vec<u8>) -> Result<(), NoMemory>
-    ensures { OnOk result (text.new.items ≡ text.old.items ++ text_of setup) }
+    ensures { OnOk result (text.new.items ≡ text.old.items ++ text_of_lines setup) }
 {
     add_lines(text, SETUP)
 }
 
 #[tactic(auto, unfolding(crate::specs::GeneratedDeck::post_front))]
 fn add_post_front(text: &mut Vec<u8>) -> Result<(), NoMemory>
-    ensures { OnOk result (text.new.items ≡ text.old.items ++ text_of post_front) }
+    ensures { OnOk result (text.new.items ≡ text.old.items ++ text_of_lines post_front) }
 {
     add_lines(text, POST_FRONT)
 }
 
 #[tactic(auto, unfolding(crate::specs::GeneratedDeck::post_back))]
 fn add_post_back(text: &mut Vec<u8>) -> Result<(), NoMemory>
-    ensures { OnOk result (text.new.items ≡ text.old.items ++ text_of post_back) }
+    ensures { OnOk result (text.new.items ≡ text.old.items ++ text_of_lines post_back) }
 {
     add_lines(text, POST_BACK)
 }
@@ -88,7 +88,7 @@ fn add_post_back(text: &mut Vec<u8>) -> Result<(), NoMemory>
 /// Adds the lines of the template of TOTAL.
 #[tactic(auto, unfolding(crate::specs::GeneratedDeck::total))]
 fn add_total(text: &mut Vec<u8>) -> Result<(), NoMemory>
-    ensures { OnOk result (text.new.items ≡ text.old.items ++ text_of total) }
+    ensures { OnOk result (text.new.items ≡ text.old.items ++ text_of_lines total) }
 {
     add_lines(text, TOTAL)
 }
@@ -101,7 +101,7 @@ fn add_post_name(text: &mut Vec<u8>, number: u32) -> Result<(), NoMemory>
 }
 
 fn add_post_head(text: &mut Vec<u8>, number: u32) -> Result<(), NoMemory>
-    ensures { OnOk result (text.new.items ≡ text.old.items ++ with_feed (post_head number)) }
+    ensures { OnOk result (text.new.items ≡ text.old.items ++ line_with_feed (post_head number)) }
 {
     add(text, b"PROGRAM ")?;
     add_post_name(text, number)?;
@@ -110,7 +110,7 @@ fn add_post_head(text: &mut Vec<u8>, number: u32) -> Result<(), NoMemory>
 
 fn add_post_sum(text: &mut Vec<u8>, number: u32) -> Result<(), NoMemory>
     requires { number ≤ 200 }
-    ensures { OnOk result (text.new.items ≡ text.old.items ++ with_feed (post_sum number)) }
+    ensures { OnOk result (text.new.items ≡ text.old.items ++ line_with_feed (post_sum number)) }
 {
     add(text, b"ADDN V,V,")?;
     add_number(text, 7 * number % 100 + 1)?;
@@ -120,7 +120,7 @@ fn add_post_sum(text: &mut Vec<u8>, number: u32) -> Result<(), NoMemory>
 /// Adds the lines of the template of a posting.
 fn add_post(text: &mut Vec<u8>, number: u32) -> Result<(), NoMemory>
     requires { number ≤ 200 }
-    ensures { OnOk result (text.new.items ≡ text.old.items ++ text_of (post number)) }
+    ensures { OnOk result (text.new.items ≡ text.old.items ++ text_of_lines (post number)) }
 {
     add_post_head(text, number)?;
     add_post_front(text)?;
@@ -132,7 +132,7 @@ fn add_post(text: &mut Vec<u8>, number: u32) -> Result<(), NoMemory>
 /// Adds the lines of the templates of postings, from 1 on.
 fn add_posts(text: &mut Vec<u8>, size: u32) -> Result<(), NoMemory>
     requires { size ≤ 200 }
-    ensures { OnOk result (text.new.items ≡ text.old.items ++ text_of (posts size)) }
+    ensures { OnOk result (text.new.items ≡ text.old.items ++ text_of_lines (posts size)) }
 {
     for number in 1..size + 1 {
         add_post(text, number)?;
@@ -142,7 +142,7 @@ fn add_posts(text: &mut Vec<u8>, size: u32) -> Result<(), NoMemory>
 
 /// Adds the line of the job of a posting.
 fn add_post_job(text: &mut Vec<u8>, number: u32) -> Result<(), NoMemory>
-    ensures { OnOk result (text.new.items ≡ text.old.items ++ with_feed (post_job number)) }
+    ensures { OnOk result (text.new.items ≡ text.old.items ++ line_with_feed (post_job number)) }
 {
     add(text, b"JOB ")?;
     add_post_name(text, number)?;
@@ -154,7 +154,7 @@ fn add_post_job(text: &mut Vec<u8>, number: u32) -> Result<(), NoMemory>
 /// Adds the lines of the jobs of postings, from 1 on.
 fn add_post_jobs(text: &mut Vec<u8>, size: u32) -> Result<(), NoMemory>
     requires { size ≤ 200 }
-    ensures { OnOk result (text.new.items ≡ text.old.items ++ text_of (post_jobs size)) }
+    ensures { OnOk result (text.new.items ≡ text.old.items ++ text_of_lines (post_jobs size)) }
 {
     for number in 1..size + 1 {
         add_post_job(text, number)?;

@@ -1,9 +1,9 @@
 //! The generated deck of n, and the total that its run comes to.
 #![tactic(auto)]
 
-mod answer;
 mod generated;
+mod run_total;
 mod text;
 
-pub use answer::{demo_text, total};
 pub use generated::deck_of;
+pub use run_total::{demo_text, total};

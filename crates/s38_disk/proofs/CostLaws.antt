@@ -1,4 +1,4 @@
--- What runs of calls cost: one call, and one run behind another.
+-- What runs of calls cost: one call, and one run after another.
 use Rattle.std.proofs.Common.{◌≡◌, ◌⊎◌, ℕ, ◌+◌, ◌≤◌, Bool, List, [], ◌∷◌, ◌++◌, IsFalse, ◌∙◌, ap, arith, inl, inr}
 use Rattle.s38_disk.specs.declared.block.Block.{Block}
 use Rattle.s38_disk.specs.declared.block.Call.{Call}
@@ -37,7 +37,7 @@ costs_sync {old} {new} {ok} {good} n = by n.past
     by (inl made) = record { calls = Synced good ∷ []; past = made; few_writes = omega arith; few_syncs = omega arith }
     by (inr none) = costs_nothing 0 1 none.0
 
--- one run behind another
+-- one run after another
 pub costs_then : {a b c : DiskView} {w s v t : ℕ} → Costs a b w s → Costs b c v t → Costs a c (w + v) (s + t)
 costs_then {a} x y = record {
   calls = x.calls ++ y.calls;

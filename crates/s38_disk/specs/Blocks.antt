@@ -5,7 +5,7 @@ use Rattle.s38_disk.specs.declared.block.Call.{Call}
 use Rattle.s38_disk.specs.declared.block.Call.TheVariants.{Wrote, Synced}
 
 -- what a read gives, what was there at the last good sync, and which blocks were written since
-pub record State : Type 0 where
+pub record DiskState : Type 0 where
   pub now : ℕ → Block
   pub durable : ℕ → Block
   pub pending : ℕ → Bool
@@ -15,10 +15,10 @@ abbrev pub put : ℕ → Block → (ℕ → Block) → ℕ → Block
 put at block blocks i = cond (i == at) block (blocks i)
 
 -- all is durable
-abbrev pub settled : (ℕ → Block) → State
-settled blocks = record { now = blocks; durable = blocks; pending = λ i. false }
+abbrev pub synced_state : (ℕ → Block) → DiskState
+synced_state blocks = record { now = blocks; durable = blocks; pending = λ i. false }
 
-abbrev pub wrote : State → ℕ → Block → State
+abbrev pub wrote : DiskState → ℕ → Block → DiskState
 wrote s at block =
     record {
       now = put at block s.now;
@@ -27,17 +27,17 @@ wrote s at block =
     }
 
 -- a write makes a block pending; a good sync makes all durable; a failed sync does nothing
-abbrev pub stepped : State → Call → State
+abbrev pub stepped : DiskState → Call → DiskState
 stepped s (Wrote at block) = wrote s at block
-stepped s (Synced true) = settled s.now
+stepped s (Synced true) = synced_state s.now
 stepped s (Synced false) = s
 
-abbrev pub after : State → List Call → State
-after s [] = s
-after s (call ∷ calls) = after (stepped s call) calls
+abbrev pub after_calls : DiskState → List Call → DiskState
+after_calls s [] = s
+after_calls s (call ∷ calls) = after_calls (stepped s call) calls
 
 -- a crash in that state may leave this: any bytes in a pending block, and each other block as it reads
-pub record IsImage (s : State) (image : ℕ → Block) : Type 0 where
+pub record IsCrashImage (s : DiskState) (image : ℕ → Block) : Type 0 where
   pub same : (i : ℕ) → s.pending i ≡ false → image i ≡ s.now i
 
 -- a block that holds one byte throughout
@@ -45,5 +45,5 @@ abbrev pub full_of : ℕ → Block
 full_of byte = record { bytes = replicate 528 byte }
 
 -- the blocks of a list, and zeros past its end
-abbrev pub listed : List Block → ℕ → Block
-listed blocks i = get_or blocks i (full_of 0)
+abbrev pub blocks_of_list : List Block → ℕ → Block
+blocks_of_list blocks i = get_or blocks i (full_of 0)

@@ -2,7 +2,7 @@
 use Rattle.std.specs.Prelude.{◌≡◌, ◌⊎◌, ℕ, ◌+◌, Bool, IsFalse, List, [], ◌∷◌, ◌++◌, length, take}
 use Rattle.s38_disk.specs.declared.block.Block.{Block}
 use Rattle.s38_disk.specs.declared.block.Call.{Call}
-use Rattle.s38_disk.specs.Blocks.{State, IsImage, after, listed, settled}
+use Rattle.s38_disk.specs.Blocks.{DiskState, IsCrashImage, after_calls, blocks_of_list, synced_state}
 
 -- A disk that tells its past: the blocks at first, when all was durable, and all calls since, in order. A disk that does
 -- not tell its past tells how many calls there were.
@@ -27,18 +27,18 @@ pub record DiskView : Type 0 where
   pub faults : ℕ
 
 -- the disk tells its past, and is in this state
-abbrev pub IsAt : Past → State → Type 0
-IsAt (Told first calls) s = s ≡ after (settled (listed first)) calls
+abbrev pub IsAt : Past → DiskState → Type 0
+IsAt (Told first calls) s = s ≡ after_calls (synced_state (blocks_of_list first)) calls
 IsAt (Untold count) s = ⊥
 
 -- the disk tells its past, and was in this state at a moment
-abbrev pub WasAt : Past → ℕ → State → Type 0
-WasAt (Told first calls) moment s = s ≡ after (settled (listed first)) (take moment calls)
+abbrev pub WasAt : Past → ℕ → DiskState → Type 0
+WasAt (Told first calls) moment s = s ≡ after_calls (synced_state (blocks_of_list first)) (take moment calls)
 WasAt (Untold count) moment s = ⊥
 
 -- the disk tells its past, and a crash at a moment may leave this
-abbrev pub Leaves : Past → ℕ → (ℕ → Block) → Type 0
-Leaves past moment image = (s : State) × (WasAt past moment s × IsImage s image)
+abbrev pub IsCrashImageAt : Past → ℕ → (ℕ → Block) → Type 0
+IsCrashImageAt past moment image = (s : DiskState) × (WasAt past moment s × IsCrashImage s image)
 
 -- A call is noted, or it failed and left no trace.
 pub record Notes (old new : DiskView) (ok : Bool) (call : Call) : Type 0 where

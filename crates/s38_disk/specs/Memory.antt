@@ -5,7 +5,7 @@ use Rattle.s38_base.specs.Faults.{counted}
 use Rattle.s38_disk.specs.declared.block.Block.{Block}
 use Rattle.s38_disk.specs.declared.block.Call.{Call}
 use Rattle.s38_disk.specs.declared.block.Call.TheVariants.{Wrote, Synced}
-use Rattle.s38_disk.specs.Blocks.{State, after, full_of, listed, settled}
+use Rattle.s38_disk.specs.Blocks.{DiskState, after_calls, blocks_of_list, full_of, synced_state}
 use Rattle.s38_disk.specs.Disk.{DiskView}
 use Rattle.s38_disk.specs.Disk.Past.{Told}
 
@@ -40,8 +40,8 @@ abbrev pub disk_view : MemStore → DiskView
 disk_view store = record { size = store.size; past = Told store.first store.calls; faults = store.plan.faults }
 
 -- the state at a moment
-abbrev pub state_at : MemStore → ℕ → State
-state_at store moment = after (settled (listed store.first)) (take moment store.calls)
+abbrev pub state_at : MemStore → ℕ → DiskState
+state_at store moment = after_calls (synced_state (blocks_of_list store.first)) (take moment store.calls)
 
 -- a write is of a block of the disk
 abbrev pub IsWithin : ℕ → Call → Type 0
@@ -57,10 +57,10 @@ pub record IsDisk (size : ℕ) (first blocks : List Block) (calls : List Call) :
   pub first_size : length first ≡ size
   pub now_size : length blocks ≡ size
   pub within : AreWithin size calls
-  pub now : (i : ℕ) → listed blocks i ≡ (after (settled (listed first)) calls).now i
+  pub now : (i : ℕ) → blocks_of_list blocks i ≡ (after_calls (synced_state (blocks_of_list first)) calls).now i
 
 -- the image of a state in which each pending block is old for fill 0, new for fill 1, and else full of the fill
-abbrev pub image_by : ℕ → State → ℕ → Block
+abbrev pub image_by : ℕ → DiskState → ℕ → Block
 image_by fill s i =
     if fill == 0 then s.durable i else (if fill == 1 then s.now i else cond (s.pending i) (full_of fill) (s.now i))
 
@@ -70,5 +70,5 @@ is_good_sync (Wrote at block) = false
 is_good_sync (Synced good) = good
 
 -- nothing is pending
-abbrev pub IsDurable : State → Type 0
+abbrev pub IsDurable : DiskState → Type 0
 IsDurable s = (i : ℕ) → (s.pending i ≡ false) × (s.durable i ≡ s.now i)

@@ -1,6 +1,6 @@
 ghost use Rattle.std.specs.Prelude.{◌≡◌, ◌<◌, ℕ, OnOk, is_ok};
 ghost use Rattle.s38_base.specs.Faults.{HasCause};
-ghost use Rattle.s38_disk.specs.Blocks.{State};
+ghost use Rattle.s38_disk.specs.Blocks.{DiskState};
 ghost use Rattle.s38_disk.specs.Disk.{DiskView, IsAt, Notes, moment_of};
 
 use crate::block::{Block, Call};
@@ -23,7 +23,7 @@ pub trait Disk {
     /// Reads a block, as it was last written. After `Failed` the given block may hold any bytes.
     fn read(&mut self, at: u32, into: &mut Block) -> Result<(), Failed>
         requires { at < (view self.old).size }
-        ensures gives { OnOk result ((s : State) → IsAt (view self.old).past s → into.new ≡ s.now at) }
+        ensures gives { OnOk result ((s : DiskState) → IsAt (view self.old).past s → into.new ≡ s.now at) }
         ensures size { (view self.new).size ≡ (view self.old).size }
         ensures past { (view self.new).past ≡ (view self.old).past }
         ensures cause { HasCause (view self.old).faults (view self.new).faults result }

@@ -3,11 +3,11 @@ ghost use Rattle.s38_base.specs.Faults.{HasCause};
 ghost use Rattle.s38_disk.specs.Disk.{Notes};
 ghost use Rattle.s38_disk.specs.Files.{Counts, after_answer, file_view, next_moment, with_zeros};
 
-use crate::answer::{Answer, of_read, of_sync, of_write};
 use crate::block::{Block, Call};
 use crate::disk::Disk;
 use crate::fault_plan::counted;
 use s38_base::Failed;
+use s38_io::answer::{Answer, of_flush, of_read, of_write};
 use std::fs::{File, OpenOptions};
 use std::marker::Model;
 use std::os::unix::fs::FileExt;
@@ -59,7 +59,7 @@ impl FileDisk {
         }
     }
 
-    /// Counts a write or a sync, unless the moment stands at its last value.
+    /// Counts a write or a sync, unless the moment is at its last value.
     fn count(&mut self) -> Result<(), Failed>
         ensures ok { OnOk result (self.new ≡ next_moment self.old) }
         ensures err { OnErr result (self.new ≡ self.old) }
@@ -220,7 +220,7 @@ fn write_some(file: &File, place: u64, from: &[u8]) -> Result<usize, Failed>
 
 /// One sync. The system itself makes one again that was interrupted.
 fn sync_file(file: &File) -> Result<(), Failed> {
-    match of_sync(file.sync_data()) {
+    match of_flush(file.sync_data()) {
         Answer::Took(_) => Ok(()),
         _ => Err(Failed),
     }

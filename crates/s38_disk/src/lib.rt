@@ -2,7 +2,6 @@
 //! disk over a file.
 #![tactic(auto)]
 
-mod answer;
 mod block;
 mod disk;
 mod fault_plan;

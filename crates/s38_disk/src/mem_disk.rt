@@ -1,7 +1,7 @@
 ghost use Rattle.std.specs.Prelude.{◌≡◌, ◌↔◌, ◌<◌, ◌≤◌, [], ℕ, IfOk, IsErr, IsTrue, OnErr, OnOk, is_err, is_ok, length, replicate};
 ghost use Rattle.s38_base.specs.Faults.{HasCause};
-ghost use Rattle.s38_disk.specs.Blocks.{State, IsImage, full_of, listed};
-ghost use Rattle.s38_disk.specs.Disk.{IsAt, Leaves, Notes};
+ghost use Rattle.s38_disk.specs.Blocks.{DiskState, IsCrashImage, blocks_of_list, full_of};
+ghost use Rattle.s38_disk.specs.Disk.{IsAt, IsCrashImageAt, Notes};
 ghost use Rattle.s38_disk.specs.Memory.{after_call, disk_view, fails_next, image_by, state_at};
 
 use crate::block::{Block, Call};
@@ -54,8 +54,8 @@ impl MemDisk {
     /// new for fill 1, and else full of the fill. On it all is durable, and no call is to fail.
     pub fn crash(self, alloc: Global, moment: u64, fill: u8) -> Self
         requires { moment ≤ length self.calls }
-        ensures blocks { (i : ℕ) → listed result.first i ≡ image_by fill (state_at self moment) i }
-        ensures image { Leaves (disk_view self).past moment (listed result.first) }
+        ensures blocks { (i : ℕ) → blocks_of_list result.first i ≡ image_by fill (state_at self moment) i }
+        ensures image { IsCrashImageAt (disk_view self).past moment (blocks_of_list result.first) }
         ensures size { result.size ≡ self.size }
         ensures calls { result.calls ≡ [] }
         ensures plan { result.plan ≡ record { failing = []; made = 0; faults = 0 } }
@@ -93,7 +93,7 @@ impl Disk for MemDisk {
 
     fn read(&mut self, at: u32, into: &mut Block) -> Result<(), Failed>
         requires { at < self.old.size }
-        ensures gives { OnOk result ((s : State) → IsAt (disk_view self.old).past s → into.new ≡ s.now at) }
+        ensures gives { OnOk result ((s : DiskState) → IsAt (disk_view self.old).past s → into.new ≡ s.now at) }
         ensures size { self.new.size ≡ self.old.size }
         ensures past { (disk_view self.new).past ≡ (disk_view self.old).past }
         ensures cause { HasCause self.old.plan.faults self.new.plan.faults result }

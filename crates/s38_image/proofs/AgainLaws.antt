@@ -10,19 +10,20 @@ use Rattle.s38_base.specs.NameText.{padded}
 use Rattle.s38_base.specs.declared.id.Kind.{Kind}
 use Rattle.s38_base.specs.declared.id.Kind.TheVariants as kinds
 use Rattle.s38_base.specs.declared.page.Change.{Change}
-use Rattle.s38_codecs.specs.Codec.{behind, byte, bytes, copies, only, print_each}
-use Rattle.s38_codecs.specs.Formats.{IsSpelling, Spelling, u16, u32}
-use Rattle.s38_codecs.proofs.CodecLaws.{both_true}
-use Rattle.s38_codecs.proofs.FormatLaws.{length_copies}
+use Rattle.s38_codec.specs.Codec.{byte, bytes, copies, dependent_pair, only, print_each}
+use Rattle.s38_codec.specs.Formats.{IsSpelling, Spelling, u16, u32}
+use Rattle.s38_codec.proofs.CodecLaws.{both_true}
+use Rattle.s38_codec.proofs.FormatLaws.{length_copies}
 use Rattle.s38_image.proofs.BodyLaws.{body_is}
 use Rattle.s38_image.proofs.HeaderLaws.{at_most, header_is, rows_is}
 use Rattle.s38_image.proofs.PageLaws.{parts_again, tags_numbered}
 use Rattle.s38_image.proofs.SpaceLaws.{length_cells}
 use Rattle.s38_image.specs.Bodies.{BodyImage, body, body_bytes, body_tags}
-use Rattle.s38_image.specs.Headers.{header, header_fields, is_mark, is_within, kind, name, object, rights, row, rows}
-use Rattle.s38_image.specs.Images.{after_leading, body_in, body_part, body_parts, first_missing, has_part, header_in, header_of, header_parts, image_of, leading, made, object_of, parts_of, row_bytes, rows_in, rows_part, rows_parts, wanted}
-use Rattle.s38_image.specs.Pages.{cut, is_page, needed, no_tags, numbered, page_at, print_parts, read_parts, tags_in}
-use Rattle.s38_image.specs.Spaces.{is_tagged, tag_numbers, page_cells}
+use Rattle.s38_image.specs.Headers.{header, header_fields, header_is_within, is_mark, kind, name, object_number_form, rights, row_form, rows}
+use Rattle.s38_image.specs.Images.{after_leading, body_in, body_parts, first_missing, has_part, header_in_parts, header_parts, image_of, image_parts, leading, made, object_of_parts, rows_in_parts, rows_parts, stored_header, wanted_parts}
+use Rattle.s38_image.specs.PartPlaces.{body_part, page_cells, row_bytes, rows_part}
+use Rattle.s38_image.specs.Pages.{is_page, needed, no_tags, numbered_pieces, page_pieces, page_put_at, print_parts, read_parts, tags_in}
+use Rattle.s38_image.specs.Spaces.{is_tagged, tag_numbers}
 use Rattle.s38_image.specs.declared.header.Header.{Header}
 use Rattle.s38_image.specs.declared.stored.Stored.{Stored}
 use Rattle.s38_rules.specs.declared.object.Body.{Body}
@@ -36,8 +37,8 @@ AllBelow : ℕ → List Change → Type 0
 AllBelow limit [] = Unit {0}
 AllBelow limit (p ∷ ps) = (p.key.part < limit) × AllBelow limit ps
 
-numbered_below : (n number first limit : ℕ) (xs tags : List ℕ) → first + n ≤ limit → AllBelow limit (numbered number first (cut n xs) tags)
-unfolding cut numbered AllBelow
+numbered_below : (n number first limit : ℕ) (xs tags : List ℕ) → first + n ≤ limit → AllBelow limit (numbered_pieces number first (page_pieces n xs) tags)
+unfolding page_pieces numbered_pieces AllBelow
 numbered_below zero number first limit xs tags le = tt
 numbered_below (suc n) number first limit xs [] le = (omega arith, numbered_below n number (first + 1) limit (drop page_bytes xs) [] (omega arith))
 numbered_below (suc n) number first limit xs (t ∷ tags) le = (omega arith, numbered_below n number (first + 1) limit (drop page_bytes xs) tags (omega arith))
@@ -67,8 +68,8 @@ unfolding StartsAt
 after_none limit [] h = refl
 after_none limit (p ∷ ps) h = rw (le-ltb p.key.part limit h) refl
 
-numbered_starts : (n number first : ℕ) (xs tags : List ℕ) → StartsAt first (numbered number first (cut n xs) tags)
-unfolding cut numbered StartsAt
+numbered_starts : (n number first : ℕ) (xs tags : List ℕ) → StartsAt first (numbered_pieces number first (page_pieces n xs) tags)
+unfolding page_pieces numbered_pieces StartsAt
 numbered_starts zero number first xs tags = tt
 numbered_starts (suc n) number first xs [] = omega arith
 numbered_starts (suc n) number first xs (t ∷ tags) = omega arith
@@ -121,19 +122,19 @@ unfolding HasAll
 has_all_more number p ps [] h = tt
 has_all_more number p ps (n ∷ ns) h = (rw h.0 (or_true (is_page number n p)), has_all_more number p ps ns h.1)
 
-page_here : (number first : ℕ) (xs : List ℕ) (t : ℕ) (ps : List Change) → has_part number (page_at number first xs t ∷ ps) first ≡ true
+page_here : (number first : ℕ) (xs : List ℕ) (t : ℕ) (ps : List Change) → has_part number (page_put_at number first xs t ∷ ps) first ≡ true
 page_here number first xs t ps = rw (eq-eqb number number refl, eq-eqb first first refl) refl
 
-numbered_has : (n number first : ℕ) (xs tags : List ℕ) → HasAll number (numbered number first (cut n xs) tags) (range_with_len first n)
-unfolding cut numbered HasAll
+numbered_has : (n number first : ℕ) (xs tags : List ℕ) → HasAll number (numbered_pieces number first (page_pieces n xs) tags) (range_with_len first n)
+unfolding page_pieces numbered_pieces HasAll
 numbered_has zero number first xs tags = tt
 numbered_has (suc n) number first xs [] = (
-  page_here number first (take page_bytes xs) 0 (numbered number (first + 1) (cut n (drop page_bytes xs)) []),
-  has_all_more number (page_at number first (take page_bytes xs) 0) (numbered number (first + 1) (cut n (drop page_bytes xs)) []) (range_with_len (first + 1) n) (numbered_has n number (first + 1) (drop page_bytes xs) []),
+  page_here number first (take page_bytes xs) 0 (numbered_pieces number (first + 1) (page_pieces n (drop page_bytes xs)) []),
+  has_all_more number (page_put_at number first (take page_bytes xs) 0) (numbered_pieces number (first + 1) (page_pieces n (drop page_bytes xs)) []) (range_with_len (first + 1) n) (numbered_has n number (first + 1) (drop page_bytes xs) []),
 )
 numbered_has (suc n) number first xs (t ∷ tags) = (
-  page_here number first (take page_bytes xs) t (numbered number (first + 1) (cut n (drop page_bytes xs)) tags),
-  has_all_more number (page_at number first (take page_bytes xs) t) (numbered number (first + 1) (cut n (drop page_bytes xs)) tags) (range_with_len (first + 1) n) (numbered_has n number (first + 1) (drop page_bytes xs) tags),
+  page_here number first (take page_bytes xs) t (numbered_pieces number (first + 1) (page_pieces n (drop page_bytes xs)) tags),
+  has_all_more number (page_put_at number first (take page_bytes xs) t) (numbered_pieces number (first + 1) (page_pieces n (drop page_bytes xs)) tags) (range_with_len (first + 1) n) (numbered_has n number (first + 1) (drop page_bytes xs) tags),
 )
 
 all_behind : (number : ℕ) (ps qs : List Change) (ns : List ℕ) → HasAll number qs ns → HasAll number (ps ++ qs) ns
@@ -159,12 +160,12 @@ name_long h fits =
     let b = last_true (kind.fits h.id.kind) _ a in
     let c = last_true (byte.fits h.id.sub) _ b in
     let d = both_true (name.fits h.id.name) _ c in
-    let e = last_true _ ((behind u16 (λ _. bytes 30)).fits (length h.id.name, padded h.id.name)) d.0 in
+    let e = last_true _ ((dependent_pair u16 (λ _. bytes 30)).fits (length h.id.name, padded h.id.name)) d.0 in
     eqb-true _ _ (last_true (u16.fits (length h.id.name)) _ e)
 
 -- what follows the name
 abbrev later : Header → List ℕ
-later h = object.print h.context ++ (object.print h.owner ++ (rights.print h.public ++ (0 ∷ (u32.print h.rows ++ (u32.print h.body ++ copies 448 0)))))
+later h = object_number_form.print h.context ++ (object_number_form.print h.owner ++ (rights.print h.public ++ (0 ∷ (u32.print h.rows ++ (u32.print h.body ++ copies 448 0)))))
 
 later_long : (h : Header) → length (later h) ≡ 474
 later_long h = let z : length {A = ℕ} (copies 448 0) ≡ 448 = length_copies {A = ℕ} 448 0 in omega (arith, z)
@@ -172,7 +173,7 @@ later_long h = let z : length {A = ℕ} (copies 448 0) ≡ 448 = length_copies {
 pub header_long : (h : Header) → header_codec.fits h ≡ true → length (header.print h) ≡ 512
 header_long h fits = omega (arith, length-append (padded h.id.name) (later h), name_long h fits, later_long h)
 
-rows_bytes : (rs : List PrivateRow) → length (print_each (copies (length rs) row) rs) ≡ 9 * length rs
+rows_bytes : (rs : List PrivateRow) → length (print_each (copies (length rs) row_form) rs) ≡ 9 * length rs
 unfolding copies print_each
 rows_bytes [] = refl
 rows_bytes (r ∷ rs) = omega (arith, rows_bytes rs)
@@ -214,12 +215,12 @@ read_at number first s tags_of Fits is x len fits tags long =
     ap (λ (k : ℕ). read_parts number first s tags_of k (print_parts number first s tags_of x)) (sym long) ∙ parts_again number first s tags_of Fits is x fits (tags ∙ ap needed (sym long))
 
 stages : (limit number : ℕ) (ps front later middle last : List Change) (h : Header) (rs : List PrivateRow) (i : BodyImage) → leading rows_part ps ≡ front → after_leading rows_part ps ≡ later → leading body_part later ≡ middle → after_leading body_part later ≡ last
-    → header_in number front ≡ Some h → is_within limit h ≡ true → first_missing number ps (wanted h) ≡ Ok []
-    → rows_in number h.rows middle ≡ Some rs → body_in number h.id.kind h.body last ≡ Some i → object_of limit number ps ≡ Ok (made number h rs i)
-unfolding object_of
+    → header_in_parts number front ≡ Some h → header_is_within limit h ≡ true → first_missing number ps (wanted_parts h) ≡ Ok []
+    → rows_in_parts number h.rows middle ≡ Some rs → body_in number h.id.kind h.body last ≡ Some i → object_of_parts limit number ps ≡ Ok (made number h rs i)
+unfolding object_of_parts
 stages limit number ps front later middle last h rs i e1 e2 e3 e4 r0 r1 r2 r3 r4 = rw (e1, e2, r0, r1, r2, e3, e4, r3, r4) refl
 
-stored_is : (s : Stored) → s.object.on_disk ≡ true → made s.object.number.0 (header_of s) s.object.rows (image_of s) ≡ s
+stored_is : (s : Stored) → s.object.on_disk ≡ true → made s.object.number.0 (stored_header s) s.object.rows (image_of s) ≡ s
 stored_is s e = let d = sym e in λ i. record { object = record s.object { on_disk = d i }; sequence = s.sequence }
 
 print_body : (k : Kind) (tags : List ℕ) (number : ℕ) (i : BodyImage) → print_parts number body_part (body k []) (body_tags k) i ≡ print_parts number body_part (body k tags) (body_tags k) i
@@ -248,12 +249,12 @@ long_body kinds.Port tags i = refl
 long_body kinds.Journal tags i = refl
 long_body kinds.Block tags i = refl
 
-pub object_again : (limit : ℕ) (s : Stored) → IsImage limit s → object_of limit s.object.number.0 (parts_of s) ≡ Ok s
+pub object_again : (limit : ℕ) (s : Stored) → IsImage limit s → object_of_parts limit s.object.number.0 (image_parts s) ≡ Ok s
 object_again limit s m =
     let number = s.object.number.0 in
     let k = s.object.id.kind in
     let i = image_of s in
-    let h = header_of s in
+    let h = stored_header s in
     let rs = s.object.rows in
     let n = length rs in
     let tags = body_tags k i in
@@ -271,11 +272,11 @@ object_again limit s m =
     let later_starts : StartsAt 1 (middle ++ last) = starts_append 1 1 middle last middle_starts (omega arith) (starts_less 1 128 last last_starts (omega arith)) in
     let wants_rows : HasAll number middle (range_with_len 1 (needed (row_bytes * n))) = subst (λ (q : ℕ). HasAll number middle (range_with_len 1 (needed q))) rows_len (numbered_has (needed (length ((rows n).print rs))) number 1 _ _) in
     let wants_body : HasAll number last (range_with_len 128 (needed len)) = numbered_has (needed len) number 128 _ _ in
-    let all : HasAll number (front ++ (middle ++ last)) (wanted h) = has_all_append number _ (range_with_len 1 (needed (row_bytes * n))) (range_with_len 128 (needed len))
+    let all : HasAll number (front ++ (middle ++ last)) (wanted_parts h) = has_all_append number _ (range_with_len 1 (needed (row_bytes * n))) (range_with_len 128 (needed len))
     (all_behind number front (middle ++ last) _ (all_front number middle last _ wants_rows)) (all_behind number front (middle ++ last) _ (all_behind number middle last _ wants_body)) in
     let found : tags_in last ≡ tags = tags_numbered number 128 (needed len) _ tags (tags_long k i m.body) in
-    let read_rows : rows_in number n middle ≡ Some rs = read_at number rows_part (rows n) (no_tags (rows n)) (λ r. (rows_codec n).fits r ≡ true) (rows_is n) rs (row_bytes * n) m.rows (length_copies {A = ℕ} (needed (length ((rows n).print rs))) 0 ∙ ap needed rows_len) rows_len in
-    let read_header : header_in number front ≡ Some h = read_at number 0 header (no_tags header) (λ g. header_codec.fits g ≡ true) header_is h 512 m.header (length_copies {A = ℕ} (needed (length (header.print h))) 0 ∙ ap needed header_len) header_len in
+    let read_rows : rows_in_parts number n middle ≡ Some rs = read_at number rows_part (rows n) (no_tags (rows n)) (λ r. (rows_codec n).fits r ≡ true) (rows_is n) rs (row_bytes * n) m.rows (length_copies {A = ℕ} (needed (length ((rows n).print rs))) 0 ∙ ap needed rows_len) rows_len in
+    let read_header : header_in_parts number front ≡ Some h = read_at number 0 header (no_tags header) (λ g. header_codec.fits g ≡ true) header_is h 512 m.header (length_copies {A = ℕ} (needed (length (header.print h))) 0 ∙ ap needed header_len) header_len in
     let own : read_parts number body_part (body k tags) (body_tags k) len (print_parts number body_part (body k tags) (body_tags k) i) ≡ Some i =
     read_at number body_part (body k tags) (body_tags k) (FitsBody k tags) (body_is k tags) i len m.body (tags_long k i m.body) (long_body k tags i) in
     let read_body : body_in number k len last ≡ Some i =
@@ -285,5 +286,5 @@ object_again limit s m =
     stages limit number (front ++ (middle ++ last)) front (middle ++ last) middle last h rs i
     (leading_all 1 front (middle ++ last) front_below (leading_none 1 (middle ++ last) later_starts)) (after_all 1 front (middle ++ last) front_below (after_none 1 (middle ++ last) later_starts))
     (leading_all 128 middle last middle_below (leading_none 128 last last_starts)) (after_all 128 middle last middle_below (after_none 128 last last_starts))
-    read_header m.within (none_missing number (front ++ (middle ++ last)) (wanted h) all) read_rows read_body
+    read_header m.within (none_missing number (front ++ (middle ++ last)) (wanted_parts h) all) read_rows read_body
     ∙ ap (λ (t : Stored). Ok t) (stored_is s m.on_disk)

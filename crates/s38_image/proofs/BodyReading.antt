@@ -6,8 +6,8 @@ use Rattle.std.proofs.lemmas.Bool.Decides.{nat_tests}
 use Rattle.s38_base.specs.declared.id.Kind.{Kind}
 use Rattle.s38_base.specs.declared.id.Kind.TheVariants as kinds
 use Rattle.s38_base.specs.declared.page.Change.{Change}
-use Rattle.s38_codecs.specs.Codec.{◌>>=◌, AreBytes, copies, is_zero}
-use Rattle.s38_codecs.specs.Formats.{IsSpelling, Spelling}
+use Rattle.s38_codec.specs.Codec.{AreBytes, byte_is_zero, copies, ◌>>=◌}
+use Rattle.s38_codec.specs.Formats.{IsSpelling, Spelling}
 use Rattle.s38_image.proofs.BodyLaws.{body_is}
 use Rattle.s38_image.proofs.ImageLaws.{print_same}
 use Rattle.s38_image.proofs.SpaceLaws.{cells_bytes, length_cells}
@@ -23,13 +23,13 @@ turned : (n : ℕ) → eqb 0 n ≡ eqb n 0
 turned zero = refl
 turned (suc n) = grind (arith, nat_tests)
 
-pub zero_tags : (tags : List ℕ) → same_list (copies (length tags) 0) tags ≡ list_all is_zero tags
+pub zero_tags : (tags : List ℕ) → same_list (copies (length tags) 0) tags ≡ list_all byte_is_zero tags
 unfolding same_list copies
 zero_tags [] = refl
 zero_tags (t ∷ ts) = ap (λ (b : Bool). b && same_list (copies (length ts) 0) ts) (turned t) ∙ ap (λ (b : Bool). eqb t 0 && b) (zero_tags ts)
 
 -- a value whose pages should have no tags
-pub untagged_right : {A : Type 0} (s : Spelling A) (tags : List ℕ) (x : A) → needed (length (s.print x)) ≡ length tags → tagged_right (no_tags s) tags x ≡ cond (list_all is_zero tags) (Some x) None
+pub untagged_right : {A : Type 0} (s : Spelling A) (tags : List ℕ) (x : A) → needed (length (s.print x)) ≡ length tags → tagged_right (no_tags s) tags x ≡ cond (list_all byte_is_zero tags) (Some x) None
 untagged_right {A} s tags x long = ap (λ (n : ℕ). cond (same_list (copies n 0) tags) (Some x) None) long ∙ ap (λ (b : Bool). cond b (Some x) None) (zero_tags tags)
 
 -- a space has as many cells as its pages hold
@@ -108,7 +108,7 @@ length_tags (p ∷ ps) = ap suc (length_tags ps)
 
 -- a value without tags in some parts
 pub untagged_read : {A : Type 0} (s : Spelling A) (Fits : A → Type 0) → IsSpelling A s Fits → (ps : List Change) (bytes : List ℕ) (x : A) → AreBytes bytes → needed (length bytes) ≡ length ps → s.read bytes ≡ Some x
-    → read_tagged s (no_tags s) ps bytes ≡ cond (list_all is_zero (tags_in ps)) (Some x) None
+    → read_tagged s (no_tags s) ps bytes ≡ cond (list_all byte_is_zero (tags_in ps)) (Some x) None
 untagged_read {A} s Fits is ps bytes x fine long e =
     let printed : needed (length (s.print x)) ≡ length (tags_in ps) = ap (λ (t : List ℕ). needed (length t)) (sym (is.exact bytes x fine e).0) ∙ long ∙ sym (length_tags ps) in
     ap (λ (o : Option A). o >>= λ y. tagged_right (no_tags s) (tags_in ps) y) e ∙ untagged_right s (tags_in ps) x printed

@@ -12,17 +12,17 @@ use Rattle.s38_base.specs.declared.id.Kind.{Kind}
 use Rattle.s38_base.specs.declared.id.Kind.TheVariants as kinds
 use Rattle.s38_base.specs.declared.id.ObjNum.{ObjNum}
 use Rattle.s38_base.specs.declared.rights.Rights.{Rights}
-use Rattle.s38_codecs.specs.Codec.{Codec, IsCodec, behind, byte, bytes, copies, is_zero, only}
-use Rattle.s38_codecs.specs.Formats.{IsSpelling, u16, u32, u64}
-use Rattle.s38_codecs.proofs.CodecLaws.{behind_is, both_true, byte_is, bytes_is, fits_copies, only_is, seen_is, times_is}
-use Rattle.s38_codecs.proofs.FormatLaws.{all_by_is, u16_is, u32_is, u64_is, zeros_are}
-use Rattle.s38_image.specs.Headers.{HeaderFields, are_rising, has_rights, header, header_by, header_fields, header_format, is_kind, is_mark, is_padded, kind, kind_by, mark, name, name_by, name_parts, object, object_by, object_number, rights, rights_by, rights_bits, row, row_by, row_parts, rows}
+use Rattle.s38_codec.specs.Codec.{Codec, IsCodec, byte, byte_is_zero, bytes, copies, dependent_pair, only}
+use Rattle.s38_codec.specs.Formats.{IsSpelling, u16, u32, u64}
+use Rattle.s38_codec.proofs.CodecLaws.{both_true, byte_is, bytes_is, dependent_pair_is, fits_copies, only_is, seen_is, times_is}
+use Rattle.s38_codec.proofs.FormatLaws.{all_by_is, u16_is, u32_is, u64_is, zeros_are}
+use Rattle.s38_image.specs.Headers.{HeaderFields, header, header_by, header_fields, header_format, is_kind, is_mark, is_padded, kind, kind_by, mark, name, name_by, name_parts, object_by, object_number, object_number_form, rights, rights_bits, rights_by, row_by, row_form, row_has_rights, row_parts, rows, users_rise}
 use Rattle.s38_image.specs.declared.header.Header.{Header}
 use Rattle.s38_rules.specs.declared.rows.PrivateRow.{PrivateRow}
 
 -- ---- small values
 
-pub object_is : IsCodec ObjNum object
+pub object_is : IsCodec ObjNum object_number_form
 object_is = seen_is object_by object_number u64 (record { there = λ y. refl; here = λ x h. refl }) u64_is
 
 pub rights_is : IsCodec Rights rights
@@ -66,7 +66,7 @@ kind_here (suc (suc (suc (suc (suc (suc (suc (suc (suc (suc (suc (suc n)))))))))
 pub kind_is : IsCodec Kind kind
 kind_is = seen_is kind_by kind_code _ (record { there = kind_there; here = λ x h. kind_here x (both_true (is_kind x) _ h).0 }) (only_is is_kind byte byte_is)
 
--- zeros as they are written behind a name
+-- zeros as they are written after a name
 pub zeros : (m : ℕ) → replicate {A = ℕ} m 0 ≡ copies m 0
 unfolding copies
 zeros zero = refl
@@ -92,7 +92,7 @@ both_are n m xs ys e f = cc
 
 name_here : (n : ℕ) (xs : List ℕ) → is_padded (n, xs) ≡ true → length xs ≡ 30 → name_parts (name_by (n, xs)) ≡ name_fields n xs
 name_here n xs h long =
-    let f = both_true (nat_le n 30 && is_name (take n xs)) (list_all is_zero (drop n xs)) h in
+    let f = both_true (nat_le n 30 && is_name (take n xs)) (list_all byte_is_zero (drop n xs)) h in
     let le : n ≤ 30 = at_most n 30 (both_true (nat_le n 30) (is_name (take n xs)) f.0).0 in
     let size : length (take n xs) ≡ n = omega (arith, length-take n xs) in
     let rest : length (drop n xs) ≡ 30 - n = omega (arith, length-append (take n xs) (drop n xs), ap length (take-append-drop n xs)) in
@@ -100,19 +100,19 @@ name_here n xs h long =
     drop_zeros (length (take n xs)) 30 ∙ ap (λ (k : ℕ). copies k 0) (ap (λ (k : ℕ). 30 - k) size ∙ sym rest) ∙ sym (zeros_are (drop n xs) f.1) in
     both_are (length (take n xs)) n (padded (take n xs)) xs size (ap (λ (t : List ℕ). take n xs ++ t) zeros ∙ take-append-drop n xs)
 
-name_long : (x : ℕ × List ℕ) → (behind u16 (λ _. bytes 30)).fits x ≡ true → length x.1 ≡ 30
+name_long : (x : ℕ × List ℕ) → (dependent_pair u16 (λ _. bytes 30)).fits x ≡ true → length x.1 ≡ 30
 name_long x h = eqb-true _ _ (both_true (u16.fits x.0) (eqb (length x.1) 30) h).1
 
 pub name_is : IsCodec (List ℕ) name
 name_is =
     seen_is name_by name_parts _
-    (record { there = name_there; here = λ x h. let f = both_true (is_padded x) ((behind u16 (λ _. bytes 30)).fits x) h in name_here x.0 x.1 f.0 (name_long x f.1) })
-    (only_is is_padded _ (behind_is u16 (λ _. bytes 30) u16_is (λ _. bytes_is 30)))
+    (record { there = name_there; here = λ x h. let f = both_true (is_padded x) ((dependent_pair u16 (λ _. bytes 30)).fits x) h in name_here x.0 x.1 f.0 (name_long x f.1) })
+    (only_is is_padded _ (dependent_pair_is u16 (λ _. bytes 30) u16_is (λ _. bytes_is 30)))
 
 -- ---- the header
 
 abbrev unused : Codec (List ℕ)
-unused = only (λ xs. list_all is_zero xs) (bytes 448)
+unused = only (λ xs. list_all byte_is_zero xs) (bytes 448)
 
 header_there : (h : Header) → header_by (header_fields h) ≡ h
 header_there h = refl
@@ -140,34 +140,34 @@ says_nothing (m, (k, (sub, (n, (context, (owner, (public, (z, (rs, (len, xs)))))
     let b = last_true (kind.fits k) _ a.1 in
     let c = last_true (byte.fits sub) _ b in
     let d = last_true (name.fits n) _ c in
-    let e = last_true (object.fits context) _ d in
-    let f = last_true (object.fits owner) _ e in
+    let e = last_true (object_number_form.fits context) _ d in
+    let f = last_true (object_number_form.fits owner) _ e in
     let g = last_true (rights.fits public) _ f in
-    let i = both_true ((only is_zero byte).fits z) _ g in
+    let i = both_true ((only byte_is_zero byte).fits z) _ g in
     let j = last_true (u32.fits rs) _ i.1 in
     let l = last_true (u32.fits len) _ j in
-    let u = both_true (list_all is_zero xs) (eqb (length xs) 448) l in
+    let u = both_true (list_all byte_is_zero xs) (eqb (length xs) 448) l in
     record {
       marked = eqb-true m mark (both_true (is_mark m) _ a.0).0;
-      empty = eqb-true z 0 (both_true (is_zero z) _ i.0).0;
+      empty = eqb-true z 0 (both_true (byte_is_zero z) _ i.0).0;
       rest = zeros_are xs u.0 ∙ ap (λ (k : ℕ). copies k 0) (eqb-true _ _ u.1);
     }
 
 format_is : IsCodec HeaderFields header_format
 format_is =
-    behind_is _ _ (only_is is_mark u32 u32_is) (λ _. behind_is kind _ kind_is (λ _. behind_is byte _ byte_is (λ _. behind_is name _ name_is (λ _. behind_is object _ object_is (λ _. behind_is object _ object_is (λ _. behind_is rights _ rights_is (λ _.
-    behind_is _ _ (only_is is_zero byte byte_is) (λ _. behind_is u32 _ u32_is (λ _. behind_is u32 _ u32_is (λ _. only_is (λ xs. list_all is_zero xs) _ (bytes_is 448)))))))))))
+    dependent_pair_is _ _ (only_is is_mark u32 u32_is) (λ _. dependent_pair_is kind _ kind_is (λ _. dependent_pair_is byte _ byte_is (λ _. dependent_pair_is name _ name_is (λ _. dependent_pair_is object_number_form _ object_is (λ _. dependent_pair_is object_number_form _ object_is (λ _. dependent_pair_is rights _ rights_is (λ _.
+    dependent_pair_is _ _ (only_is byte_is_zero byte byte_is) (λ _. dependent_pair_is u32 _ u32_is (λ _. dependent_pair_is u32 _ u32_is (λ _. only_is (λ xs. list_all byte_is_zero xs) _ (bytes_is 448)))))))))))
 
 pub header_is : IsSpelling Header header (λ h. header_codec.fits h ≡ true)
 header_is = all_by_is header_codec (seen_is header_by header_fields header_format (record { there = header_there; here = λ x h. fields_same x (says_nothing x h) }) format_is)
 
 -- ---- rows
 
-pub row_is : IsCodec PrivateRow row
-row_is = seen_is row_by row_parts _ (record { there = λ y. refl; here = λ x h. refl }) (behind_is object _ object_is (λ _. only_is has_rights rights rights_is))
+pub row_is : IsCodec PrivateRow row_form
+row_is = seen_is row_by row_parts _ (record { there = λ y. refl; here = λ x h. refl }) (dependent_pair_is object_number_form _ object_is (λ _. only_is row_has_rights rights rights_is))
 
 pub rows_is : (n : ℕ) → IsSpelling (List PrivateRow) (rows n) (λ rs. (rows_codec n).fits rs ≡ true)
-rows_is n = all_by_is (rows_codec n) (only_is are_rising _ (times_is n row row_is))
+rows_is n = all_by_is (rows_codec n) (only_is users_rise _ (times_is n row_form row_is))
 
 pub rows_long : (n : ℕ) (rs : List PrivateRow) → (rows_codec n).fits rs ≡ true → length rs ≡ n
-rows_long n rs h = fits_copies n row rs (both_true (are_rising rs) _ h).1
+rows_long n rs h = fits_copies n row_form rs (both_true (users_rise rs) _ h).1

@@ -8,11 +8,11 @@ use Rattle.s38_image.specs.Fitting.{AreWhole}
 use Rattle.s38_base.specs.Limits.{page_bytes}
 use Rattle.s38_base.specs.declared.page.Change.{Change}
 use Rattle.s38_base.specs.declared.page.Page.{Page}
-use Rattle.s38_codecs.specs.Codec.{◌>>=◌, AreBytes, copies, is_zero}
-use Rattle.s38_codecs.specs.Formats.{IsSpelling, Spelling}
-use Rattle.s38_codecs.proofs.CodecLaws.{AreBytes-take, bind_some, both_true, guard_some}
-use Rattle.s38_codecs.proofs.FormatLaws.{copies_zero, length_copies, zeros_are}
-use Rattle.s38_image.specs.Pages.{are_pages, bytes_of, cut, filled, is_page, needed, numbered, page_at, print_parts, read_parts, same_list, stream, stream_of, tagged_right, tags_in, tags_of, unfilled}
+use Rattle.s38_codec.specs.Codec.{AreBytes, byte_is_zero, copies, ◌>>=◌}
+use Rattle.s38_codec.specs.Formats.{IsSpelling, Spelling}
+use Rattle.s38_codec.proofs.CodecLaws.{AreBytes-take, bind_some, both_true, guard_some}
+use Rattle.s38_codec.proofs.FormatLaws.{copies_zero, length_copies, zeros_are}
+use Rattle.s38_image.specs.Pages.{are_pages, bytes_of_page, is_page, needed, numbered_pieces, page_pieces, page_put_at, print_parts, read_parts, same_list, stream, stream_of, tagged_right, tags_in, tags_of, unfilled, zero_filled}
 
 pub same_lists : (xs ys : List ℕ) → same_list xs ys ≡ true → xs ≡ ys
 unfolding same_list
@@ -34,11 +34,11 @@ pub guard_then : {A : Type 0} (b : Bool) (o : Option A) (x : A) → cond b o Non
 guard_then true o x e = (refl, e)
 guard_then false o x e = absurd cc
 
-some_page : (p : Option Page) → is_some p ≡ true → p ≡ Some (record { bytes = bytes_of p; tags = tags_of p })
+some_page : (p : Option Page) → is_some p ≡ true → p ≡ Some (record { bytes = bytes_of_page p; tags = tags_of p })
 some_page None h = absurd cc
 some_page (Some page) h = refl
 
-page_is : (object part : ℕ) (c : Change) → is_page object part c ≡ true → c ≡ page_at object part (bytes_of c.page) (tags_of c.page)
+page_is : (object part : ℕ) (c : Change) → is_page object part c ≡ true → c ≡ page_put_at object part (bytes_of_page c.page) (tags_of c.page)
 page_is object part c h =
     let f = both_true (eqb c.key.object object) (eqb c.key.part part && is_some c.page) h in
     let g = both_true (eqb c.key.part part) (is_some c.page) f.1 in
@@ -54,18 +54,18 @@ page_there : (object part : ℕ) (c : Change) → is_page object part c ≡ true
 page_there object part c h = (both_true (eqb c.key.part part) (is_some c.page) (both_true (eqb c.key.object object) (eqb c.key.part part && is_some c.page) h).1).1
 
 -- pages of these numbers are the pages of their stream
-pub pages_are : (object : ℕ) (ps : List Change) (first count : ℕ) → AreWhole ps → are_pages object first count ps ≡ true → ps ≡ numbered object first (cut count (stream ps)) (tags_in ps)
-unfolding cut numbered AreWhole are_pages
+pub pages_are : (object : ℕ) (ps : List Change) (first count : ℕ) → AreWhole ps → are_pages object first count ps ≡ true → ps ≡ numbered_pieces object first (page_pieces count (stream ps)) (tags_in ps)
+unfolding page_pieces numbered_pieces AreWhole are_pages
 pages_are object [] first zero ok is = refl
 pages_are object [] first (suc n) ok is = absurd cc
 pages_are object (c ∷ ps) first zero ok is = absurd cc
 pages_are object (c ∷ ps) first (suc n) ok is =
     let f = both_true (is_page object first c) (are_pages object (first + 1) n ps) is in
     let long = ok.0 (page_there object first c f.0) in
-    let front : take page_bytes (bytes_of c.page ++ stream ps) ≡ bytes_of c.page = take_at (bytes_of c.page) (stream ps) page_bytes long in
-    let back : drop page_bytes (bytes_of c.page ++ stream ps) ≡ stream ps = drop_at (bytes_of c.page) (stream ps) page_bytes long in
+    let front : take page_bytes (bytes_of_page c.page ++ stream ps) ≡ bytes_of_page c.page = take_at (bytes_of_page c.page) (stream ps) page_bytes long in
+    let back : drop page_bytes (bytes_of_page c.page ++ stream ps) ≡ stream ps = drop_at (bytes_of_page c.page) (stream ps) page_bytes long in
     let rest = pages_are object ps (first + 1) n ok.1 f.1 in
-    rw (front, back) (cons_is c (page_at object first (bytes_of c.page) (tags_of c.page)) ps (numbered object (first + 1) (cut n (stream ps)) (tags_in ps)) (page_is object first c f.0) rest)
+    rw (front, back) (cons_is c (page_put_at object first (bytes_of_page c.page) (tags_of c.page)) ps (numbered_pieces object (first + 1) (page_pieces n (stream ps)) (tags_in ps)) (page_is object first c f.0) rest)
 
 pub stream_len : (object : ℕ) (ps : List Change) (first count : ℕ) → AreWhole ps → are_pages object first count ps ≡ true → length (stream ps) ≡ page_bytes * count
 unfolding AreWhole are_pages
@@ -74,16 +74,16 @@ stream_len object [] first (suc n) ok is = absurd cc
 stream_len object (c ∷ ps) first zero ok is = absurd cc
 stream_len object (c ∷ ps) first (suc n) ok is =
     let f = both_true (is_page object first c) (are_pages object (first + 1) n ps) is in
-    omega (arith, ok.0 (page_there object first c f.0), stream_len object ps (first + 1) n ok.1 f.1, length-append (bytes_of c.page) (stream ps))
+    omega (arith, ok.0 (page_there object first c f.0), stream_len object ps (first + 1) n ok.1 f.1, length-append (bytes_of_page c.page) (stream ps))
 
 pub enough : (len : ℕ) → len ≤ page_bytes * needed len
 enough len = omega arith
 
 -- ---- what is read is printed
 
-pub unfilled_is : (len n : ℕ) (xs bytes : List ℕ) → length xs ≡ n → len ≤ n → unfilled len xs ≡ Some bytes → (xs ≡ filled n bytes) × (length bytes ≡ len)
+pub unfilled_is : (len n : ℕ) (xs bytes : List ℕ) → length xs ≡ n → len ≤ n → unfilled len xs ≡ Some bytes → (xs ≡ zero_filled n bytes) × (length bytes ≡ len)
 unfilled_is len n xs bytes long le e =
-    let g = guard_some (list_all is_zero (drop len xs)) (take len xs) bytes e in
+    let g = guard_some (list_all byte_is_zero (drop len xs)) (take len xs) bytes e in
     let front : length (take len xs) ≡ len = omega (arith, length-take len xs) in
     let size : length bytes ≡ len = ap length (sym g.1) ∙ front in
     let rest : drop len xs ≡ copies (n - length bytes) 0 = zeros_are (drop len xs) g.0 ∙ ap (λ (k : ℕ). copies k 0) (omega (arith, length-drop len xs, size)) in
@@ -92,7 +92,7 @@ unfilled_is len n xs bytes long le e =
 -- the bytes of a stream are those of its pages
 bytes_unfilled : (len : ℕ) (xs bytes : List ℕ) → AreBytes xs → unfilled len xs ≡ Some bytes → AreBytes bytes
 bytes_unfilled len xs bytes fine e =
-    let g = guard_some (list_all is_zero (drop len xs)) (take len xs) bytes e in
+    let g = guard_some (list_all byte_is_zero (drop len xs)) (take len xs) bytes e in
     subst AreBytes g.1 (AreBytes-take len xs fine)
 
 pub record Reads (A : Type 0) (object first : ℕ) (s : Spelling A) (tags_of : A → List ℕ) (Fits : A → Type 0) (len : ℕ) (ps : List Change) (x : A) : Type 0 where
@@ -112,44 +112,44 @@ parts_exact {A} object first s tags_of Fits is len ps x ok fine e =
     let m = is.exact a.0 b.0 (bytes_unfilled len (stream ps) a.0 fine g.1) b.1 in
     let long : length (s.print b.0) ≡ len = ap length (sym m.0) ∙ u.1 in
     let tags = same_lists _ _ t.0 in
-    let whole_is : ps ≡ numbered object first (cut (needed (length (s.print b.0))) (filled (page_bytes * needed (length (s.print b.0))) (s.print b.0))) (tags_of b.0) =
+    let whole_is : ps ≡ numbered_pieces object first (page_pieces (needed (length (s.print b.0))) (zero_filled (page_bytes * needed (length (s.print b.0))) (s.print b.0))) (tags_of b.0) =
     pages_are object ps first (needed len) ok g.0
-    ∙ ap (λ (q : List ℕ). numbered object first (cut (needed len) q) (tags_in ps)) u.0
-    ∙ ap (λ (q : List ℕ). numbered object first (cut (needed len) (filled (page_bytes * needed len) q)) (tags_in ps)) m.0
-    ∙ ap (λ (q : List ℕ). numbered object first (cut (needed len) (filled (page_bytes * needed len) (s.print b.0))) q) (sym tags)
-    ∙ ap (λ (k : ℕ). numbered object first (cut (needed k) (filled (page_bytes * needed k) (s.print b.0))) (tags_of b.0)) (sym long) in
+    ∙ ap (λ (q : List ℕ). numbered_pieces object first (page_pieces (needed len) q) (tags_in ps)) u.0
+    ∙ ap (λ (q : List ℕ). numbered_pieces object first (page_pieces (needed len) (zero_filled (page_bytes * needed len) q)) (tags_in ps)) m.0
+    ∙ ap (λ (q : List ℕ). numbered_pieces object first (page_pieces (needed len) (zero_filled (page_bytes * needed len) (s.print b.0))) q) (sym tags)
+    ∙ ap (λ (k : ℕ). numbered_pieces object first (page_pieces (needed k) (zero_filled (page_bytes * needed k) (s.print b.0))) (tags_of b.0)) (sym long) in
     subst (λ (y : A). Reads A object first s tags_of Fits len ps y) t.1 (record { printed = whole_is; fits = m.1; long = long; tagged = tags })
 
 -- ---- what is printed is read
 
-page_here : (object part : ℕ) (bytes : List ℕ) (tags : ℕ) → is_page object part (page_at object part bytes tags) ≡ true
+page_here : (object part : ℕ) (bytes : List ℕ) (tags : ℕ) → is_page object part (page_put_at object part bytes tags) ≡ true
 page_here object part bytes tags = rw (eq-eqb object object refl, eq-eqb part part refl) refl
 
-pub pages_numbered : (object first n : ℕ) (xs tags : List ℕ) → are_pages object first n (numbered object first (cut n xs) tags) ≡ true
-unfolding cut numbered are_pages
+pub pages_numbered : (object first n : ℕ) (xs tags : List ℕ) → are_pages object first n (numbered_pieces object first (page_pieces n xs) tags) ≡ true
+unfolding page_pieces numbered_pieces are_pages
 pages_numbered object first zero xs tags = refl
 pages_numbered object first (suc n) xs [] = rw (page_here object first (take page_bytes xs) 0) (pages_numbered object (first + 1) n (drop page_bytes xs) [])
 pages_numbered object first (suc n) xs (t ∷ tags) = rw (page_here object first (take page_bytes xs) t) (pages_numbered object (first + 1) n (drop page_bytes xs) tags)
 
-pub tags_numbered : (object first n : ℕ) (xs tags : List ℕ) → length tags ≡ n → tags_in (numbered object first (cut n xs) tags) ≡ tags
-unfolding cut numbered
+pub tags_numbered : (object first n : ℕ) (xs tags : List ℕ) → length tags ≡ n → tags_in (numbered_pieces object first (page_pieces n xs) tags) ≡ tags
+unfolding page_pieces numbered_pieces
 tags_numbered object first zero xs [] is = refl
 tags_numbered object first zero xs (t ∷ tags) is = absurd (omega arith)
 tags_numbered object first (suc n) xs [] is = absurd (omega arith)
 tags_numbered object first (suc n) xs (t ∷ tags) is = ap (λ (u : List ℕ). t ∷ u) (tags_numbered object (first + 1) n (drop page_bytes xs) tags (omega arith))
 
-stream_numbered : (object first n : ℕ) (xs tags : List ℕ) → length xs ≡ page_bytes * n → stream (numbered object first (cut n xs) tags) ≡ xs
-unfolding cut numbered
+stream_numbered : (object first n : ℕ) (xs tags : List ℕ) → length xs ≡ page_bytes * n → stream (numbered_pieces object first (page_pieces n xs) tags) ≡ xs
+unfolding page_pieces numbered_pieces
 stream_numbered object first zero xs tags is = sym (nil_from_length xs (omega arith))
 stream_numbered object first (suc n) xs [] is =
     ap (λ (t : List ℕ). take page_bytes xs ++ t) (stream_numbered object (first + 1) n (drop page_bytes xs) [] (omega (arith, length-drop page_bytes xs))) ∙ take-append-drop page_bytes xs
 stream_numbered object first (suc n) xs (t ∷ tags) is =
     ap (λ (u : List ℕ). take page_bytes xs ++ u) (stream_numbered object (first + 1) n (drop page_bytes xs) tags (omega (arith, length-drop page_bytes xs))) ∙ take-append-drop page_bytes xs
 
-pub length_filled : (n : ℕ) (xs : List ℕ) → length xs ≤ n → length (filled n xs) ≡ n
+pub length_filled : (n : ℕ) (xs : List ℕ) → length xs ≤ n → length (zero_filled n xs) ≡ n
 length_filled n xs le = omega (arith, length-append xs (copies (n - length xs) 0), length_copies {A = ℕ} (n - length xs) 0)
 
-filled_back : (n : ℕ) (xs : List ℕ) → unfilled (length xs) (filled n xs) ≡ Some xs
+filled_back : (n : ℕ) (xs : List ℕ) → unfilled (length xs) (zero_filled n xs) ≡ Some xs
 filled_back n xs =
     let back = drop_at xs (copies (n - length xs) 0) (length xs) refl in
     let front = take_at xs (copies (n - length xs) 0) (length xs) refl in
@@ -158,6 +158,6 @@ filled_back n xs =
 pub parts_again : {A : Type 0} (object first : ℕ) (s : Spelling A) (tags_of : A → List ℕ) (Fits : A → Type 0) → IsSpelling A s Fits → (x : A) → Fits x → length (tags_of x) ≡ needed (length (s.print x)) → read_parts object first s tags_of (length (s.print x)) (print_parts object first s tags_of x) ≡ Some x
 parts_again {A} object first s tags_of Fits is x fits tags =
     let n = needed (length (s.print x)) in
-    let whole = filled (page_bytes * n) (s.print x) in
+    let whole = zero_filled (page_bytes * n) (s.print x) in
     let long : length whole ≡ page_bytes * n = length_filled (page_bytes * n) (s.print x) (enough (length (s.print x))) in
     rw (pages_numbered object first n whole (tags_of x), stream_numbered object first n whole (tags_of x) long, filled_back (page_bytes * n) (s.print x), is.again x fits, tags_numbered object first n whole (tags_of x) tags, lists_same (tags_of x)) refl

@@ -5,7 +5,7 @@ use Rattle.std.specs.List.{range_with_len}
 use Rattle.std.proofs.lemmas.Bool.{lt-ltb, le-ltb}
 use Rattle.std.proofs.lemmas.List.{append-nil, drop_all, drop_more, take_all, take_more}
 use Rattle.s38_base.specs.declared.page.Change.{Change}
-use Rattle.s38_image.specs.Images.{◌>>>◌, after_leading, first_missing, has_part, leading}
+use Rattle.s38_image.specs.Images.{after_leading, first_missing, has_part, leading, ◌>>>◌}
 
 -- ---- the parts below a number, and the others
 
@@ -19,25 +19,9 @@ stops limit p ps le =
     let b : ltb p.key.part limit ≡ false = le-ltb p.key.part limit le in
     (rw b refl, rw b refl)
 
-pub leading_more : (limit : ℕ) (ps : List Change) (i : ℕ) (d : Change) → i < length ps → (get_or ps i d).key.part < limit → leading limit ps ≡ take i ps ++ leading limit (drop i ps) → leading limit ps ≡ take (i + 1) ps ++ leading limit (drop (i + 1) ps)
-leading_more limit ps i d lt below so_far =
-    so_far ∙ ap (λ (q : List Change). take i ps ++ leading limit q) (drop_more ps i d lt)
-    ∙ ap (λ (q : List Change). take i ps ++ q) (leads limit (get_or ps i d) (drop (i + 1) ps) below).0
-    ∙ sym (append_assoc (take i ps) (get_or ps i d ∷ []) (leading limit (drop (i + 1) ps)))
-    ∙ ap (λ (q : List Change). q ++ leading limit (drop (i + 1) ps)) (sym (take_more ps i d lt))
-
 pub after_more : (limit : ℕ) (ps : List Change) (i : ℕ) (d : Change) → i < length ps → (get_or ps i d).key.part < limit → after_leading limit ps ≡ after_leading limit (drop i ps) → after_leading limit ps ≡ after_leading limit (drop (i + 1) ps)
 after_more limit ps i d lt below so_far =
     so_far ∙ ap (after_leading limit) (drop_more ps i d lt) ∙ (leads limit (get_or ps i d) (drop (i + 1) ps) below).1
-
-pub leading_stops : (limit : ℕ) (ps : List Change) (i : ℕ) (d : Change) → i < length ps → limit ≤ (get_or ps i d).key.part → leading limit ps ≡ take i ps ++ leading limit (drop i ps) → take i ps ≡ leading limit ps
-leading_stops limit ps i d lt above so_far =
-    sym (so_far ∙ ap (λ (q : List Change). take i ps ++ leading limit q) (drop_more ps i d lt)
-    ∙ ap (λ (q : List Change). take i ps ++ q) (stops limit (get_or ps i d) (drop (i + 1) ps) above).0 ∙ append-nil (take i ps))
-
-pub after_stops : (limit : ℕ) (ps : List Change) (i : ℕ) (d : Change) → i < length ps → limit ≤ (get_or ps i d).key.part → after_leading limit ps ≡ after_leading limit (drop i ps) → drop i ps ≡ after_leading limit ps
-after_stops limit ps i d lt above so_far =
-    drop_more ps i d lt ∙ sym (stops limit (get_or ps i d) (drop (i + 1) ps) above).1 ∙ ap (after_leading limit) (sym (drop_more ps i d lt)) ∙ sym so_far
 
 pub leading_all : (limit : ℕ) (ps : List Change) (i : ℕ) → length ps ≤ i → leading limit ps ≡ take i ps ++ leading limit (drop i ps) → ps ≡ leading limit ps
 leading_all limit ps i le so_far =
@@ -55,16 +39,6 @@ pub missing_more : (number part end : ℕ) (ps : List Change) (total : Result (L
 missing_more number part end ps total lt is so_far =
     let one : first_missing number ps (range_with_len part (suc (end - (part + 1)))) ≡ first_missing number ps (range_with_len (part + 1) (end - (part + 1))) = rw is refl in
     sym one ∙ ap (λ (n : ℕ). first_missing number ps (range_with_len part n)) (sym (one_less part end lt)) ∙ so_far
-
-pub missing_here : (number part end : ℕ) (ps : List Change) (total : Result (List ℕ) ℕ) → part < end → has_part number ps part ≡ false → first_missing number ps (range_with_len part (end - part)) ≡ total → total ≡ Err part
-missing_here number part end ps total lt is so_far =
-    let one : first_missing number ps (range_with_len part (suc (end - (part + 1)))) ≡ Err part = rw is refl in
-    sym so_far ∙ ap (λ (n : ℕ). first_missing number ps (range_with_len part n)) (one_less part end lt) ∙ one
-
-pub missing_none : (number part end : ℕ) (ps : List Change) (total : Result (List ℕ) ℕ) → end ≤ part → first_missing number ps (range_with_len part (end - part)) ≡ total → total ≡ Ok []
-missing_none number part end ps total le so_far =
-    let none : end - part ≡ 0 = omega arith in
-    sym so_far ∙ ap (λ (n : ℕ). first_missing number ps (range_with_len part n)) none
 
 missing_by : (number : ℕ) (ps : List Change) (x : ℕ) (xs ys : List ℕ) (b : Bool) → first_missing number ps (xs ++ ys) ≡ (first_missing number ps xs >>> λ _. first_missing number ps ys)
     → cond b (first_missing number ps (xs ++ ys)) (Err x) ≡ (cond b (first_missing number ps xs) (Err x) >>> λ _. first_missing number ps ys)

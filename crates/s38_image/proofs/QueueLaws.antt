@@ -2,14 +2,14 @@
 use Rattle.std.proofs.Common.{◌≡◌, ℕ, ◌+◌, ◌++◌, cond, eqb, Bool, true, false, List, length, Option, Some, None, refl, sym, ap, arith}
 use Rattle.std.proofs.lemmas.List.{length-append}
 use Rattle.std.specs.Prelude.{IfOk, Result, Ok, Err}
-use Rattle.s38_codecs.proofs.CodecLaws.{AreBytes-behind, bytes_is, wide16, wide32}
-use Rattle.s38_codecs.proofs.FormatLaws.{text_is, u32_is}
-use Rattle.s38_codecs.specs.Codec.{◌>>=◌, AreBytes, bytes, times, whole}
-use Rattle.s38_codecs.specs.Formats.{text as text_format, u16, u32}
-use Rattle.s38_codecs.specs.Reading.{Gives}
-use Rattle.s38_codecs.specs.declared.fault.ReadFault.{ReadFault}
-use Rattle.s38_codecs.specs.declared.fault.ReadFault.TheVariants as faults
-use Rattle.s38_image.specs.Queues.{QueueHead, message, queue, queue_by, queue_head}
+use Rattle.s38_codec.proofs.CodecLaws.{AreBytes-after, bytes_is, wide16, wide32}
+use Rattle.s38_codec.proofs.FormatLaws.{text_is, u32_is}
+use Rattle.s38_codec.specs.Codec.{AreBytes, bytes, times, whole, ◌>>=◌}
+use Rattle.s38_codec.specs.Formats.{text as text_format, u16, u32}
+use Rattle.s38_codec.specs.Reading.{Gives}
+use Rattle.s38_codec.specs.declared.fault.ReadFault.{ReadFault}
+use Rattle.s38_codec.specs.declared.fault.ReadFault.TheVariants as faults
+use Rattle.s38_image.specs.Queues.{QueueHead, message_form, queue, queue_by, queue_head}
 use Rattle.s38_image.proofs.BodyLaws.{queue_head_is}
 use Rattle.s38_queues.specs.MessageQueue.{MessageQueue, message as with_key, message_size}
 use Rattle.s38_queues.specs.declared.message.Message.{Message}
@@ -19,12 +19,12 @@ some_by h ms true = refl
 some_by h ms false = refl
 
 queue_by_messages : (bytes first second : List ℕ) (h : QueueHead) (n : ℕ) → queue_head.read bytes ≡ Some (h, first) → u32.read first ≡ Some (n, second)
-    → (o : Option (List Message × List ℕ)) → (times n (message h.1.0 h.1.1)).read second ≡ o → whole queue bytes ≡ (whole (times n (message h.1.0 h.1.1)) second >>= λ ms. Some (queue_by (h, ms)))
+    → (o : Option (List Message × List ℕ)) → (times n (message_form h.1.0 h.1.1)).read second ≡ o → whole queue bytes ≡ (whole (times n (message_form h.1.0 h.1.1)) second >>= λ ms. Some (queue_by (h, ms)))
 queue_by_messages bytes first second h n one two None e = rw (one, two, e) refl
 queue_by_messages bytes first second h n one two (Some x) e = rw (one, two, e) (some_by h x.0 (eqb (length x.1) 0))
 
 pub queue_whole : (bytes first second : List ℕ) (h : QueueHead) (n : ℕ) → queue_head.read bytes ≡ Some (h, first) → u32.read first ≡ Some (n, second)
-    → whole queue bytes ≡ (whole (times n (message h.1.0 h.1.1)) second >>= λ ms. Some (queue_by (h, ms)))
+    → whole queue bytes ≡ (whole (times n (message_form h.1.0 h.1.1)) second >>= λ ms. Some (queue_by (h, ms)))
 queue_whole bytes first second h n one two = queue_by_messages bytes first second h n one two _ refl
 
 same_queue : (q : MessageQueue) (h : QueueHead) → q.order ≡ h.0 → q.key_len ≡ h.1.0 → q.longest ≡ h.1.1 → queue_by (h, q.messages) ≡ q
@@ -41,15 +41,15 @@ pub message_len : (key_len longest : ℕ) (from key rest text after : List ℕ) 
     → length from ≡ message_size (with_key key text) + length after
 message_len key_len longest from key rest text after fine one two =
     let front = ((bytes_is key_len).exact from key rest fine one).parts in
-    let good = AreBytes-behind key rest from front fine in
+    let good = AreBytes-after key rest from front fine in
     let back = ((text_is longest).exact rest text after good two).parts in
     omega (arith, ap length front, length-append key rest, ap length back, length-append (u16.print (length text) ++ text) after, length-append (u16.print (length text)) text, wide16.len (length text))
 
--- what stands before the messages takes eight bytes
+-- what comes before the messages takes eight bytes
 pub head_len : (bytes first second : List ℕ) (h : QueueHead) (n : ℕ) → AreBytes bytes → queue_head.read bytes ≡ Some (h, first) → u32.read first ≡ Some (n, second) → length bytes ≡ 8 + length second
 head_len bytes first second h n fine one two =
     let front = (queue_head_is.exact bytes h first fine one).parts in
-    let good = AreBytes-behind (queue_head.print h) first bytes front fine in
+    let good = AreBytes-after (queue_head.print h) first bytes front fine in
     omega (
       arith,
       ap length front,

@@ -1,10 +1,10 @@
 -- Formats of all bytes that pass a test.
 use Rattle.std.proofs.Common.{◌≡◌, ℕ, ◌-◌, ◌+◌, ◌<◌, Bool, true, false, cond, eqb, List, [], ◌∷◌, ◌++◌, length, Option, Some, None, refl, sym, ap, ◌∙◌}
-use Rattle.s38_codecs.specs.Codec.{Codec, ◌>>=◌, only, times, whole}
-use Rattle.s38_codecs.specs.Reading.{Fails}
-use Rattle.s38_codecs.specs.declared.fault.ReadFault.{ReadFault}
-use Rattle.s38_codecs.specs.declared.fault.ReadFault.TheVariants as faults
-use Rattle.s38_codecs.proofs.Loop.{goes_on, with_front}
+use Rattle.s38_codec.specs.Codec.{Codec, only, times, whole, ◌>>=◌}
+use Rattle.s38_codec.specs.Reading.{Fails}
+use Rattle.s38_codec.specs.declared.fault.ReadFault.{ReadFault}
+use Rattle.s38_codec.specs.declared.fault.ReadFault.TheVariants as faults
+use Rattle.s38_codec.proofs.Loop.{goes_on, with_front}
 
 guarded : {A : Type 0} (p : A → Bool) (x : A × List ℕ) (b : Bool) → p x.0 ≡ b → (cond b (Some x) None >>= λ y. cond (eqb (length y.1) 0) (Some y.0) None) ≡ (cond (eqb (length x.1) 0) (Some x.0) None >>= λ y. cond (p y) (Some y) None)
 guarded {A} p x true e = guarded_end (eqb (length x.1) 0)
@@ -28,10 +28,6 @@ whole_only p c bs = whole_by p c (c.read bs)
 
 pub whole_kept : {A : Type 0} (p : A → Bool) (c : Codec A) (bs : List ℕ) (x : A) → whole c bs ≡ Some x → p x ≡ true → whole (only p c) bs ≡ Some x
 whole_kept p c bs x e h = whole_only p c bs ∙ rw (e, h) refl
-
-fails_on : {A B : Type 0} (e : ReadFault) (o : Option A) (f : A → Option B) → Fails e o → Fails e (o >>= f)
-fails_on faults.NoMemory o f h = tt
-fails_on faults.BadForm o f h = rw h refl
 
 pub whole_fails : {A : Type 0} (p : A → Bool) (c : Codec A) (bs : List ℕ) (e : ReadFault) → Fails e (whole c bs) → Fails e (whole (only p c) bs)
 whole_fails p c bs faults.NoMemory h = tt

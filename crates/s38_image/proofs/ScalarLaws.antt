@@ -7,12 +7,12 @@ use Rattle.s38_base.specs.declared.attr.Attr.{Attr}
 use Rattle.s38_base.specs.declared.attr.Attr.TheVariants as attrs
 use Rattle.s38_base.specs.declared.pointer.Pointer.{Pointer}
 use Rattle.s38_base.specs.declared.pointer.Pointer.TheVariants as pointers
-use Rattle.s38_codecs.specs.Codec.{Codec, IsCodec, behind, byte}
-use Rattle.s38_codecs.specs.Formats.{u32, u64}
-use Rattle.s38_codecs.proofs.CodecLaws.{behind_is, both_true, byte_is, only_is, seen_is}
-use Rattle.s38_codecs.proofs.FormatLaws.{u32_is, u64_is}
+use Rattle.s38_codec.specs.Codec.{Codec, IsCodec, byte, dependent_pair}
+use Rattle.s38_codec.specs.Formats.{u32, u64}
+use Rattle.s38_codec.proofs.CodecLaws.{both_true, byte_is, dependent_pair_is, only_is, seen_is}
+use Rattle.s38_codec.proofs.FormatLaws.{u32_is, u64_is}
 use Rattle.s38_image.proofs.HeaderLaws.{at_most}
-use Rattle.s38_image.specs.Scalars.{AttrBytes, PointerBytes, attr, attr_by, attr_bytes, is_attr, is_pointer, pointer, pointer_by, pointer_bytes}
+use Rattle.s38_image.specs.Scalars.{AttrBytes, PointerBytes, attr, attr_by, attr_bytes, is_attr, is_pointer_image, pointer, pointer_by, pointer_bytes}
 
 -- ---- attributes
 
@@ -51,10 +51,10 @@ attr_here (suc (suc (suc (suc (suc n))))) a b h lt =
     absurd (omega arith)
 
 abbrev pub three_bytes : Codec AttrBytes
-three_bytes = behind byte (λ _. behind byte (λ _. byte))
+three_bytes = dependent_pair byte (λ _. dependent_pair byte (λ _. byte))
 
 three_bytes_is : IsCodec AttrBytes three_bytes
-three_bytes_is = behind_is byte _ byte_is (λ _. behind_is byte _ byte_is (λ _. byte_is))
+three_bytes_is = dependent_pair_is byte _ byte_is (λ _. dependent_pair_is byte _ byte_is (λ _. byte_is))
 
 last_byte : (x : AttrBytes) → three_bytes.fits x ≡ true → x.1.1 < 256
 last_byte x h =
@@ -107,7 +107,7 @@ or_false false h = absurd cc
 apart : (k m : ℕ) → m < k → eqb k m ≡ false
 apart k m lt = grind (arith, nat_tests)
 
-no_kind : (k : ℕ) (detail : AttrBytes) (offset object : ℕ) → 3 < k → is_pointer (fields k detail offset object) ≡ true → ⊥
+no_kind : (k : ℕ) (detail : AttrBytes) (offset object : ℕ) → 3 < k → is_pointer_image (fields k detail offset object) ≡ true → ⊥
 no_kind k detail offset object lt h =
     let one = apart k 1 (omega arith) in
     let two = apart k 2 (omega arith) in
@@ -115,7 +115,7 @@ no_kind k detail offset object lt h =
     let q : false ≡ true = rw (one, two, none) at h in
     absurd cc
 
-pointer_here : (kind a b c offset object : ℕ) → is_pointer (kind, ((a, (b, c)), (offset, object))) ≡ true → c < 256 → pointer_bytes (pointer_by (kind, ((a, (b, c)), (offset, object)))) ≡ fields kind (three a b c) offset object
+pointer_here : (kind a b c offset object : ℕ) → is_pointer_image (kind, ((a, (b, c)), (offset, object))) ≡ true → c < 256 → pointer_bytes (pointer_by (kind, ((a, (b, c)), (offset, object)))) ≡ fields kind (three a b c) offset object
 pointer_here zero a b c offset object h lt = absurd cc
 pointer_here (suc zero) a b c offset object h lt = system_here a b c offset object (or_nothing _ h)
 pointer_here (suc (suc zero)) a b c offset object h lt = space_here a b c offset object (or_false _ h)
@@ -123,15 +123,15 @@ pointer_here (suc (suc (suc zero))) a b c offset object h lt = ap (λ (t : AttrB
 pointer_here (suc (suc (suc (suc n)))) a b c offset object h lt = absurd (no_kind (suc (suc (suc (suc n)))) (three a b c) offset object (omega arith) h)
 
 abbrev pub sixteen : Codec PointerBytes
-sixteen = behind byte (λ _. behind three_bytes (λ _. behind u32 (λ _. u64)))
+sixteen = dependent_pair byte (λ _. dependent_pair three_bytes (λ _. dependent_pair u32 (λ _. u64)))
 
 pub pointer_is : IsCodec Pointer pointer
 pointer_is =
     seen_is pointer_by pointer_bytes _
     (record {
       there = pointer_there;
-      here = λ x h. let f = both_true (is_pointer x) (sixteen.fits x) h in
+      here = λ x h. let f = both_true (is_pointer_image x) (sixteen.fits x) h in
           let g = both_true (byte.fits x.0) (three_bytes.fits x.1.0 && (u32.fits x.1.1.0 && u64.fits x.1.1.1)) f.1 in
           pointer_here x.0 x.1.0.0 x.1.0.1.0 x.1.0.1.1 x.1.1.0 x.1.1.1 f.0 (last_byte x.1.0 (both_true (three_bytes.fits x.1.0) _ g.1).0);
     })
-    (only_is is_pointer sixteen (behind_is byte _ byte_is (λ _. behind_is three_bytes _ three_bytes_is (λ _. behind_is u32 _ u32_is (λ _. u64_is)))))
+    (only_is is_pointer_image sixteen (dependent_pair_is byte _ byte_is (λ _. dependent_pair_is three_bytes _ three_bytes_is (λ _. dependent_pair_is u32 _ u32_is (λ _. u64_is)))))

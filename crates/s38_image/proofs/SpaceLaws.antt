@@ -9,13 +9,13 @@ use Rattle.s38_base.specs.declared.id.ObjNum.{ObjNum}
 use Rattle.s38_base.specs.declared.attr.Attr.TheVariants as attrs
 use Rattle.s38_base.specs.declared.pointer.Pointer.{Pointer}
 use Rattle.s38_base.specs.declared.pointer.Pointer.TheVariants as pointers
-use Rattle.s38_codecs.specs.Codec.{Codec, IsCodec, AreBytes, bytes, fits_each, only, print_each, whole, byte}
-use Rattle.s38_codecs.specs.Formats.{IsSpelling, u32, u64}
-use Rattle.s38_codecs.proofs.CodecLaws.{AllCodecs, and_true, both_true, bytes_is, each_is, only_is, under_is, whole_again, whole_exact}
+use Rattle.s38_codec.specs.Codec.{AreBytes, Codec, IsCodec, byte, bytes, fits_each, only, print_each, whole}
+use Rattle.s38_codec.specs.Formats.{IsSpelling, u32, u64}
+use Rattle.s38_codec.proofs.CodecLaws.{AllCodecs, and_true, both_true, bytes_is, each_is, only_is, under_is, whole_again, whole_exact}
 use Rattle.s38_image.proofs.ScalarLaws.{pointer_is, sixteen, three_bytes}
-use Rattle.s38_image.specs.Scalars.{is_pointer, pointer, pointer_bytes}
-use Rattle.s38_image.specs.Spaces.{bytes_held, cell, cells_by, flags_in, is_some_cell, plain_part, pointer_in, space, tagged_part}
-use Rattle.s38_memory.specs.Cell.{bytes_of}
+use Rattle.s38_image.specs.Scalars.{is_pointer_image, pointer, pointer_bytes}
+use Rattle.s38_image.specs.Spaces.{bytes_held, cell, cell_pointer, cells_by, flags_in, is_some_cell, plain_part, space_form, tagged_part}
+use Rattle.s38_memory.specs.Cell.{bytes_of_cell}
 use Rattle.s38_memory.specs.Image.{fields, image}
 use Rattle.s38_memory.specs.Tagged.{bytes_in}
 use Rattle.s38_memory.specs.declared.cell.Cell.{Cell}
@@ -36,7 +36,7 @@ tail offset object = big_bytes 4 offset ++ big_bytes 8 object
 length_byte : (object : ObjNum) (offset len : ℕ) → pointer.fits (pointers.Item object offset (attrs.Chars len)) ≡ true → len / 256 < 256
 length_byte object offset len h =
     let p = pointer_bytes (pointers.Item object offset (attrs.Chars len)) in
-    let f = both_true (is_pointer p) (sixteen.fits p) h in
+    let f = both_true (is_pointer_image p) (sixteen.fits p) h in
     let g = both_true (byte.fits 3) (three_bytes.fits p.1.0 && (u32.fits offset && u64.fits object.0)) f.1 in
     let d = both_true (three_bytes.fits p.1.0) (u32.fits offset && u64.fits object.0) g.1 in
     let e = both_true (byte.fits 4) (byte.fits (len / 256) && byte.fits (len % 256)) d.0 in
@@ -55,7 +55,7 @@ pointer_image (pointers.Item object offset attrs.Pointer) h = refl
 
 -- ---- the cells
 
-tagged_back : (c : Cell) (p : Pointer) → pointer_in c ≡ Some p → c ≡ cells.Tagged p
+tagged_back : (c : Cell) (p : Pointer) → cell_pointer c ≡ Some p → c ≡ cells.Tagged p
 tagged_back (cells.Tagged q) p h = cc
 tagged_back (cells.Bytes xs) p h = absurd cc
 
@@ -76,7 +76,7 @@ pub cells_is : (flags : List Bool) → IsCodec (List Cell) (cells_by flags)
 cells_is flags = each_is (map cell flags) (all_cells flags)
 
 -- a cell that fits is printed as it reads
-cell_bytes : (flag : Bool) (c : Cell) → (cell flag).fits c ≡ true → (cell flag).print c ≡ bytes_of c
+cell_bytes : (flag : Bool) (c : Cell) → (cell flag).fits c ≡ true → (cell flag).print c ≡ bytes_of_cell c
 cell_bytes true (cells.Tagged p) h = pointer_image p h
 cell_bytes true (cells.Bytes xs) h = absurd cc
 cell_bytes false (cells.Tagged p) h = absurd cc
@@ -105,7 +105,7 @@ length_pointer (pointers.Item object offset (attrs.Binary size)) = refl
 length_pointer (pointers.Item object offset (attrs.Chars len)) = refl
 length_pointer (pointers.Item object offset attrs.Pointer) = refl
 
-length_cell : (flag : Bool) (c : Cell) → (cell flag).fits c ≡ true → length (bytes_of c) ≡ 16
+length_cell : (flag : Bool) (c : Cell) → (cell flag).fits c ≡ true → length (bytes_of_cell c) ≡ 16
 length_cell true (cells.Tagged p) h = length_pointer p
 length_cell true (cells.Bytes xs) h = absurd cc
 length_cell false (cells.Tagged p) h = absurd cc
@@ -118,7 +118,7 @@ length_cells [] (c ∷ cs) h = absurd cc
 length_cells (f ∷ fs) [] h = absurd cc
 length_cells (f ∷ fs) (c ∷ cs) h =
     let g = both_true ((cell f).fits c) (fits_each (map cell fs) cs) h in
-    omega (arith, length_cell f c g.0, length_cells fs cs g.1, length-append (bytes_of c) (bytes_in cs))
+    omega (arith, length_cell f c g.0, length_cells fs cs g.1, length-append (bytes_of_cell c) (bytes_in cs))
 
 abbrev space_codec : List Bool → Codec (List Cell)
 space_codec flags = only is_some_cell (cells_by flags)
@@ -129,7 +129,7 @@ space_codec_is flags = only_is is_some_cell (cells_by flags) (cells_is flags)
 sixteenth : (n m : ℕ) → n ≡ 16 * m → n / 16 ≡ m
 sixteenth n m e = omega arith
 
-space_again : (tags : List ℕ) (cs : List Cell) → FitsSpace tags cs → (space tags).read (bytes_in cs) ≡ Some cs
+space_again : (tags : List ℕ) (cs : List Cell) → FitsSpace tags cs → (space_form tags).read (bytes_in cs) ≡ Some cs
 space_again tags cs h =
     let flags = take (length cs) (flags_in tags) in
     let count : length (bytes_in cs) / 16 ≡ length cs = sixteenth (length (bytes_in cs)) (length cs) (length_cells flags cs h.cells) in
@@ -138,7 +138,7 @@ space_again tags cs h =
     ∙ ap (whole (space_codec flags)) (sym (cells_bytes flags cs h.cells))
     ∙ whole_again (space_codec flags) (space_codec_is flags) cs fits
 
-space_exact : (tags bs : List ℕ) (cs : List Cell) → AreBytes bs → (space tags).read bs ≡ Some cs → (bs ≡ bytes_in cs) × FitsSpace tags cs
+space_exact : (tags bs : List ℕ) (cs : List Cell) → AreBytes bs → (space_form tags).read bs ≡ Some cs → (bs ≡ bytes_in cs) × FitsSpace tags cs
 space_exact tags bs cs fine e =
     let flags = take (length bs / 16) (flags_in tags) in
     let w = whole_exact (space_codec flags) (space_codec_is flags) bs cs fine e in
@@ -147,5 +147,5 @@ space_exact tags bs cs fine e =
     let count : length bs / 16 ≡ length cs = sixteenth (length bs) (length cs) (ap length printed ∙ length_cells flags cs f.1) in
     (printed, record { some = f.0; cells = subst (λ (n : ℕ). (cells_by (take n (flags_in tags))).fits cs ≡ true) count f.1 })
 
-pub space_is : (tags : List ℕ) → IsSpelling (List Cell) (space tags) (FitsSpace tags)
+pub space_is : (tags : List ℕ) → IsSpelling (List Cell) (space_form tags) (FitsSpace tags)
 space_is tags = record { again = space_again tags; exact = space_exact tags }

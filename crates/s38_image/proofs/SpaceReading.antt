@@ -10,13 +10,14 @@ use Rattle.std.specs.Prelude.{◌&&◌, min}
 use Rattle.std.proofs.lemmas.Option.{slice_get-get_or, slice_get_past}
 use Rattle.std.proofs.lemmas.List.{append-nil, length-take, drop-map, drop_all, drop_more, take-map, take_all}
 use Rattle.std.proofs.lemmas.Nat.{shr-shr}
-use Rattle.s38_codecs.specs.Codec.{◌>>=◌, read_each, whole}
-use Rattle.s38_codecs.specs.Reading.{Fails}
-use Rattle.s38_codecs.specs.declared.fault.ReadFault.{ReadFault}
-use Rattle.s38_codecs.specs.declared.fault.ReadFault.TheVariants as faults
-use Rattle.s38_codecs.proofs.Loop.{with_front}
+use Rattle.s38_codec.specs.Codec.{read_each, whole, ◌>>=◌}
+use Rattle.s38_codec.specs.Reading.{Fails}
+use Rattle.s38_codec.specs.declared.fault.ReadFault.{ReadFault}
+use Rattle.s38_codec.specs.declared.fault.ReadFault.TheVariants as faults
+use Rattle.s38_codec.proofs.Loop.{with_front}
 use Rattle.s38_image.specs.Pages.{same_list}
-use Rattle.s38_image.specs.Spaces.{bits, cell, cells_by, flags_in, is_tagged, page_cells, tag_number, tag_numbers}
+use Rattle.s38_image.specs.Spaces.{bits, cell, cells_by, flags_in, is_tagged, tag_number, tag_numbers}
+use Rattle.s38_image.specs.PartPlaces.{page_cells}
 use Rattle.s38_memory.specs.declared.cell.Cell.{Cell}
 
 -- the value at a place, and those after it

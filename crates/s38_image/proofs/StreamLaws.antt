@@ -3,10 +3,10 @@ use Rattle.std.proofs.Common.{◌≡◌, ◌≢◌, ℕ, zero, suc, ◌+◌, ◌
 use Rattle.std.specs.Prelude.{◌&&◌}
 use Rattle.std.proofs.lemmas.List.{append-nil, at_drop_all, drop_more, take_more}
 use Rattle.s38_base.specs.declared.page.Change.{Change}
-use Rattle.s38_codecs.proofs.CodecLaws.{both_true}
+use Rattle.s38_codec.proofs.CodecLaws.{both_true}
 use Rattle.std.specs.Prelude.{is_some}
 use Rattle.s38_image.specs.Fitting.{AreWhole}
-use Rattle.s38_image.specs.Pages.{are_pages, bytes_of, is_page, stream}
+use Rattle.s38_image.specs.Pages.{are_pages, bytes_of_page, is_page, stream}
 
 pub pages_step : (number first count i : ℕ) (ps : List Change) (d : Change) → length ps ≡ count → i < count → are_pages number (first + i) (count - i) (drop i ps) ≡ (is_page number (first + i) (get_or ps i d) && are_pages number (first + (i + 1)) (count - (i + 1)) (drop (i + 1) ps))
 unfolding are_pages
@@ -62,26 +62,26 @@ page_holds number first count part i ps d b total long lt at is holds so_far =
 
 pub stream_append : (ps qs : List Change) → stream (ps ++ qs) ≡ stream ps ++ stream qs
 stream_append [] qs = refl
-stream_append (p ∷ ps) qs = ap (λ (t : List ℕ). bytes_of p.page ++ t) (stream_append ps qs) ∙ sym (append_assoc (bytes_of p.page) (stream ps) (stream qs))
+stream_append (p ∷ ps) qs = ap (λ (t : List ℕ). bytes_of_page p.page ++ t) (stream_append ps qs) ∙ sym (append_assoc (bytes_of_page p.page) (stream ps) (stream qs))
 
 -- the bytes of one more page
-pub stream_more : (ps : List Change) (i : ℕ) (d : Change) → i < length ps → stream (take (i + 1) ps) ≡ stream (take i ps) ++ bytes_of (get_or ps i d).page
+pub stream_more : (ps : List Change) (i : ℕ) (d : Change) → i < length ps → stream (take (i + 1) ps) ≡ stream (take i ps) ++ bytes_of_page (get_or ps i d).page
 stream_more ps i d lt =
-    ap stream (take_more ps i d lt) ∙ stream_append (take i ps) (get_or ps i d ∷ []) ∙ ap (λ (t : List ℕ). stream (take i ps) ++ t) (append-nil (bytes_of (get_or ps i d).page))
+    ap stream (take_more ps i d lt) ∙ stream_append (take i ps) (get_or ps i d ∷ []) ∙ ap (λ (t : List ℕ). stream (take i ps) ++ t) (append-nil (bytes_of_page (get_or ps i d).page))
 
 pub whole_none : (ps : List Change) → AreWhole (take 0 ps)
 unfolding AreWhole
 whole_none ps = tt
 
-whole_added : (xs : List Change) (p : Change) → AreWhole xs → (is_some p.page ≡ true → length (bytes_of p.page) ≡ 512) → AreWhole (xs ++ p ∷ [])
+whole_added : (xs : List Change) (p : Change) → AreWhole xs → (is_some p.page ≡ true → length (bytes_of_page p.page) ≡ 512) → AreWhole (xs ++ p ∷ [])
 unfolding AreWhole
 whole_added [] p ok one = (one, tt)
 whole_added (x ∷ xs) p ok one = (ok.0, whole_added xs p ok.1 one)
 
 -- one more whole page
-pub whole_more : (ps : List Change) (i : ℕ) (d : Change) → i < length ps → AreWhole (take i ps) → (is_some (get_or ps i d).page ≡ true → length (bytes_of (get_or ps i d).page) ≡ 512) → AreWhole (take (i + 1) ps)
+pub whole_more : (ps : List Change) (i : ℕ) (d : Change) → i < length ps → AreWhole (take i ps) → (is_some (get_or ps i d).page ≡ true → length (bytes_of_page (get_or ps i d).page) ≡ 512) → AreWhole (take (i + 1) ps)
 whole_more ps i d lt ok one = subst AreWhole (sym (take_more ps i d lt)) (whole_added (take i ps) (get_or ps i d) ok one)
 
--- the bytes of one more page behind those before
-pub joined_more : (ps : List Change) (i : ℕ) (d : Change) (old new : List ℕ) → i < length ps → new ≡ old ++ bytes_of (get_or ps i d).page → old ≡ stream (take i ps) → new ≡ stream (take (i + 1) ps)
-joined_more ps i d old new lt more so_far = more ∙ ap (λ (t : List ℕ). t ++ bytes_of (get_or ps i d).page) so_far ∙ sym (stream_more ps i d lt)
+-- the bytes of one more page after those before
+pub joined_more : (ps : List Change) (i : ℕ) (d : Change) (old new : List ℕ) → i < length ps → new ≡ old ++ bytes_of_page (get_or ps i d).page → old ≡ stream (take i ps) → new ≡ stream (take (i + 1) ps)
+joined_more ps i d old new lt more so_far = more ∙ ap (λ (t : List ℕ). t ++ bytes_of_page (get_or ps i d).page) so_far ∙ sym (stream_more ps i d lt)

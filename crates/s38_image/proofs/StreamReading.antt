@@ -3,8 +3,8 @@ use Rattle.std.proofs.Common.{◌≡◌, ℕ, ◌*◌, true, List, length, Optio
 use Rattle.std.specs.Prelude.{IfOk, Result, Ok, Err}
 use Rattle.s38_base.specs.Limits.{page_bytes}
 use Rattle.s38_base.specs.declared.page.Change.{Change}
-use Rattle.s38_codecs.specs.Reading.{Gives}
-use Rattle.s38_codecs.specs.declared.fault.ReadFault.{ReadFault}
+use Rattle.s38_codec.specs.Reading.{Gives}
+use Rattle.s38_codec.specs.declared.fault.ReadFault.{ReadFault}
 use Rattle.s38_image.proofs.PageLaws.{enough, stream_len, unfilled_is}
 use Rattle.s38_image.proofs.StreamLaws.{pages_long}
 use Rattle.s38_image.specs.Fitting.{AreWhole}

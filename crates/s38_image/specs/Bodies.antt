@@ -5,18 +5,18 @@ use Rattle.s38_base.specs.declared.id.Kind.{Kind}
 use Rattle.s38_base.specs.declared.id.Kind.TheVariants as kinds
 use Rattle.s38_base.specs.declared.rights.Special.{Special}
 use Rattle.s38_code.specs.declared.program.Program.{Program}
-use Rattle.s38_codecs.specs.Codec.{Codec, Part, behind, byte, copies, only, seen}
-use Rattle.s38_codecs.specs.Formats.{Spelling, all_by, case_by, u32}
+use Rattle.s38_codec.specs.Codec.{Case, Codec, byte, copies, dependent_pair, only, seen}
+use Rattle.s38_codec.specs.Formats.{Spelling, all_by, case_by, u32}
 use Rattle.s38_image.specs.DataSpaces.{DataParts, data_space}
-use Rattle.s38_image.specs.Headers.{object}
+use Rattle.s38_image.specs.Headers.{object_number_form}
 use Rattle.s38_image.specs.Indexes.{index}
 use Rattle.s38_image.specs.Journals.{journal}
 use Rattle.s38_image.specs.Pages.{needed}
-use Rattle.s38_image.specs.Programs.{program}
+use Rattle.s38_image.specs.Programs.{program_form}
 use Rattle.s38_image.specs.Queues.{queue}
-use Rattle.s38_image.specs.Spaces.{space, space_tags}
-use Rattle.s38_journals.specs.Entries.{Entry}
-use Rattle.s38_rules.specs.Parts as parts
+use Rattle.s38_image.specs.Spaces.{space_form, space_tags}
+use Rattle.s38_journals.specs.Entries.{JournalRecord}
+use Rattle.s38_rules.specs.state.Parts as parts
 use Rattle.s38_rules.specs.declared.block.Block.{Block}
 use Rattle.s38_rules.specs.declared.cursor.Cursor.{Cursor}
 use Rattle.s38_rules.specs.declared.object.Body.{Body}
@@ -27,8 +27,8 @@ use Rattle.s38_base.specs.declared.id.ObjNum.{ObjNum}
 -- ---- small bodies
 
 -- no bit but those of the two special authorities
-abbrev pub is_special : ℕ → Bool
-is_special n = ((n == 0) || (n == rights.profile)) || ((n == rights.allobj) || (n == 0xC0))
+abbrev pub is_special_byte : ℕ → Bool
+is_special_byte n = ((n == 0) || (n == rights.profile)) || ((n == rights.allobj) || (n == 0xC0))
 
 abbrev pub special_by : ℕ → Special
 special_by n = record { 0 = n }
@@ -37,11 +37,11 @@ abbrev pub special_bits : Special → ℕ
 special_bits s = s.0
 
 abbrev pub special : Codec Special
-special = seen special_by special_bits (only is_special byte)
+special = seen special_by special_bits (only is_special_byte byte)
 
 -- the special authorities, and how many pages the user may own
-abbrev pub profile : Codec (Special × ℕ)
-profile = behind special (λ _. u32)
+abbrev pub profile_form : Codec (Special × ℕ)
+profile_form = dependent_pair special (λ _. u32)
 
 abbrev pub cursor_by : ObjNum × (ObjNum × ℕ) → Cursor
 cursor_by x = record { space = x.0; block = x.1.0; position = x.1.1 }
@@ -51,7 +51,7 @@ cursor_parts c = (c.space, (c.block, c.position))
 
 -- the data space, the commit block or 0, and the position
 abbrev pub cursor : Codec Cursor
-cursor = seen cursor_by cursor_parts (behind object (λ _. behind object (λ _. u32)))
+cursor = seen cursor_by cursor_parts (dependent_pair object_number_form (λ _. dependent_pair object_number_form (λ _. u32)))
 
 abbrev pub port_by : ObjNum → Port
 port_by n = record { journal = n }
@@ -60,7 +60,7 @@ abbrev pub port_number : Port → ObjNum
 port_number p = p.journal
 
 abbrev pub port : Codec Port
-port = seen port_by port_number object
+port = seen port_by port_number object_number_form
 
 abbrev pub block_by : ObjNum → Block
 block_by n = record { port = n }
@@ -69,15 +69,15 @@ abbrev pub block_number : Block → ObjNum
 block_number b = b.port
 
 abbrev pub block : Codec Block
-block = seen block_by block_number object
+block = seen block_by block_number object_number_form
 
 abbrev pub nothing_of : List ℕ → Option (Unit {0})
 nothing_of [] = Some tt
 nothing_of (b ∷ bs) = None
 
 -- a context has no bytes
-abbrev pub nothing : Spelling (Unit {0})
-nothing = record { print = λ x. []; read = nothing_of }
+abbrev pub no_bytes : Spelling (Unit {0})
+no_bytes = record { print = λ x. []; read = nothing_of }
 
 -- ---- bodies, and the sequence of a data space
 
@@ -91,8 +91,8 @@ unsequenced p zero b = p.of b
 unsequenced p (suc n) b = None
 
 -- what a body of a kind holds, where no sequence is said
-abbrev pub held_in : {T : Type 0} → parts.Part T → Part T BodyImage
-held_in p = record { of = λ i. unsequenced p i.sequence i.body; make = λ x. record { body = p.make x; sequence = 0 } }
+abbrev pub held_without_sequence : {T : Type 0} → parts.Part T → Case T BodyImage
+held_without_sequence p = record { of = λ i. unsequenced p i.sequence i.body; make = λ x. record { body = p.make x; sequence = 0 } }
 
 abbrev pub context_of : Body → Option (Unit {0})
 context_of bodies.Context = Some tt
@@ -101,27 +101,27 @@ context_of _ = None
 abbrev pub context_part : parts.Part (Unit {0})
 context_part = record { of = context_of; make = λ x. bodies.Context }
 
-abbrev pub program_in : Body → Option Program
-program_in (bodies.Program p) = Some p
-program_in _ = None
+abbrev pub program_of_body : Body → Option Program
+program_of_body (bodies.Program p) = Some p
+program_of_body _ = None
 
 abbrev pub program_part : parts.Part Program
-program_part = record { of = program_in; make = bodies.Program }
+program_part = record { of = program_of_body; make = bodies.Program }
 
-abbrev pub entries_in : Body → Option (List Entry)
+abbrev pub entries_in : Body → Option (List JournalRecord)
 entries_in (bodies.Journal j) = if (j.spare == 0) && (j.unforced == 0) then Some j.entries else None
 entries_in _ = None
 
 -- the entries of a journal space, all forced
-abbrev pub entries_part : parts.Part (List Entry)
+abbrev pub entries_part : parts.Part (List JournalRecord)
 entries_part = record { of = entries_in; make = λ es. bodies.Journal (record { spare = 0; unforced = 0; entries = es }) }
 
 abbrev pub data_in : ℕ → Body → Option DataParts
 data_in sequence (bodies.DataSpace d) = if d.space.spare == 0 then Some (d.port.0, (sequence, (d.space.fields, d.space.entries))) else None
 data_in sequence _ = None
 
-abbrev pub data_part : Part DataParts BodyImage
-data_part = record {
+abbrev pub data_image_part : Case DataParts BodyImage
+data_image_part = record {
   of = λ i. data_in i.sequence i.body;
   make = λ x. record {
     body = bodies.DataSpace (record { space = record { fields = x.1.1.0; spare = 0; entries = x.1.1.1 }; port = record { 0 = x.0 } });
@@ -133,17 +133,17 @@ data_part = record {
 
 -- a body of a kind whose pages have these tags
 abbrev pub body : Kind → List ℕ → Spelling BodyImage
-body kinds.Context tags = case_by (held_in context_part) nothing
-body kinds.Program tags = case_by (held_in program_part) program
-body kinds.Profile tags = case_by (held_in parts.profile_part) (all_by profile)
-body kinds.Space tags = case_by (held_in parts.space_part) (space tags)
-body kinds.Queue tags = case_by (held_in parts.queue_part) (all_by queue)
-body kinds.Index tags = case_by (held_in parts.index_part) (all_by index)
-body kinds.DataSpace tags = case_by data_part (all_by data_space)
-body kinds.Cursor tags = case_by (held_in parts.cursor_part) (all_by cursor)
-body kinds.Port tags = case_by (held_in parts.port_part) (all_by port)
-body kinds.Journal tags = case_by (held_in entries_part) journal
-body kinds.Block tags = case_by (held_in parts.block_part) (all_by block)
+body kinds.Context tags = case_by (held_without_sequence context_part) no_bytes
+body kinds.Program tags = case_by (held_without_sequence program_part) program_form
+body kinds.Profile tags = case_by (held_without_sequence parts.profile_part) (all_by profile_form)
+body kinds.Space tags = case_by (held_without_sequence parts.space_part) (space_form tags)
+body kinds.Queue tags = case_by (held_without_sequence parts.queue_part) (all_by queue)
+body kinds.Index tags = case_by (held_without_sequence parts.index_part) (all_by index)
+body kinds.DataSpace tags = case_by data_image_part (all_by data_space)
+body kinds.Cursor tags = case_by (held_without_sequence parts.cursor_part) (all_by cursor)
+body kinds.Port tags = case_by (held_without_sequence parts.port_part) (all_by port)
+body kinds.Journal tags = case_by (held_without_sequence entries_part) journal
+body kinds.Block tags = case_by (held_without_sequence parts.block_part) (all_by block)
 
 -- the bytes of a body
 abbrev pub body_bytes : Kind → BodyImage → List ℕ

@@ -8,8 +8,8 @@ use Rattle.s38_base.specs.declared.id.Kind.{Kind}
 use Rattle.s38_base.specs.declared.id.Kind.TheVariants as kinds
 use Rattle.s38_base.specs.declared.id.ObjNum.{ObjNum}
 use Rattle.s38_base.specs.declared.rights.Rights.{Rights}
-use Rattle.s38_codecs.specs.Codec.{Codec, behind, byte, bytes, copies, is_zero, only, seen, times}
-use Rattle.s38_codecs.specs.Formats.{Spelling, all_by, u16, u32, u64}
+use Rattle.s38_codec.specs.Codec.{Codec, byte, byte_is_zero, bytes, copies, dependent_pair, only, seen, times}
+use Rattle.s38_codec.specs.Formats.{Spelling, all_by, u16, u32, u64}
 use Rattle.s38_image.specs.declared.header.Header.{Header}
 use Rattle.s38_rules.specs.declared.rows.PrivateRow.{PrivateRow}
 
@@ -21,8 +21,8 @@ object_by n = record { 0 = n }
 abbrev pub object_number : ObjNum → ℕ
 object_number o = o.0
 
-abbrev pub object : Codec ObjNum
-object = seen object_by object_number u64
+abbrev pub object_number_form : Codec ObjNum
+object_number_form = seen object_by object_number u64
 
 abbrev pub rights_by : ℕ → Rights
 rights_by n = record { 0 = n }
@@ -62,11 +62,11 @@ name_parts name = (length name, padded name)
 
 -- the first so many of thirty bytes are a name, and the others are zero
 abbrev pub is_padded : ℕ × List ℕ → Bool
-is_padded x = (nat_le x.0 30 && is_name (take x.0 x.1)) && list_all is_zero (drop x.0 x.1)
+is_padded x = (nat_le x.0 30 && is_name (take x.0 x.1)) && list_all byte_is_zero (drop x.0 x.1)
 
 -- a name's length, and its text in thirty bytes
 abbrev pub name : Codec (List ℕ)
-name = seen name_by name_parts (only is_padded (behind u16 (λ _. bytes 30)))
+name = seen name_by name_parts (only is_padded (dependent_pair u16 (λ _. bytes 30)))
 
 -- ---- the header
 
@@ -97,8 +97,8 @@ header_fields h = (mark, (h.id.kind, (h.id.sub, (h.id.name, (h.context, (h.owner
 -- rows there are, and the length of the body; the rest of the page is zero
 abbrev pub header_format : Codec HeaderFields
 header_format =
-    behind (only is_mark u32) (λ _. behind kind (λ _. behind byte (λ _. behind name (λ _. behind object (λ _. behind object (λ _. behind rights (λ _.
-    behind (only is_zero byte) (λ _. behind u32 (λ _. behind u32 (λ _. only (λ unused. list_all is_zero unused) (bytes 448)))))))))))
+    dependent_pair (only is_mark u32) (λ _. dependent_pair kind (λ _. dependent_pair byte (λ _. dependent_pair name (λ _. dependent_pair object_number_form (λ _. dependent_pair object_number_form (λ _. dependent_pair rights (λ _.
+    dependent_pair (only byte_is_zero byte) (λ _. dependent_pair u32 (λ _. dependent_pair u32 (λ _. only (λ unused. list_all byte_is_zero unused) (bytes 448)))))))))))
 
 abbrev pub header : Spelling Header
 header = all_by (seen header_by header_fields header_format)
@@ -111,21 +111,21 @@ row_by x = record { user = x.0; rights = x.1 }
 abbrev pub row_parts : PrivateRow → ObjNum × Rights
 row_parts r = (r.user, r.rights)
 
-abbrev pub has_rights : Rights → Bool
-has_rights r = not (r.0 == 0)
+abbrev pub row_has_rights : Rights → Bool
+row_has_rights r = not (r.0 == 0)
 
-abbrev pub row : Codec PrivateRow
-row = seen row_by row_parts (behind object (λ _. only has_rights rights))
+abbrev pub row_form : Codec PrivateRow
+row_form = seen row_by row_parts (dependent_pair object_number_form (λ _. only row_has_rights rights))
 
 -- the users strictly rise
-abbrev pub are_rising : List PrivateRow → Bool
-are_rising [] = true
-are_rising (r ∷ []) = true
-are_rising (r ∷ q ∷ rows) = nat_lt r.user.0 q.user.0 && are_rising (q ∷ rows)
+abbrev pub users_rise : List PrivateRow → Bool
+users_rise [] = true
+users_rise (r ∷ []) = true
+users_rise (r ∷ q ∷ rows) = nat_lt r.user.0 q.user.0 && users_rise (q ∷ rows)
 
 -- so many rows, 9 bytes each
 abbrev pub rows : ℕ → Spelling (List PrivateRow)
-rows n = all_by (only are_rising (times n row))
+rows n = all_by (only users_rise (times n row_form))
 
 -- ---- its limits
 
@@ -135,5 +135,5 @@ longest_body limit kinds.Journal = 16777216
 longest_body limit _ = limit
 
 -- not too many rows, and no body that is too long
-abbrev pub is_within : ℕ → Header → Bool
-is_within limit h = nat_le h.rows most_rows && nat_le h.body (longest_body limit h.id.kind)
+abbrev pub header_is_within : ℕ → Header → Bool
+header_is_within limit h = nat_le h.rows most_rows && nat_le h.body (longest_body limit h.id.kind)

@@ -1,3 +1,4 @@
+pub mod PartPlaces
 pub mod Pages
 pub mod Headers
 pub mod Scalars

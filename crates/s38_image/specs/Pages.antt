@@ -4,37 +4,37 @@ use Rattle.std.specs.List.{list_all, concat}
 use Rattle.s38_base.specs.Limits.{page_bytes}
 use Rattle.s38_base.specs.declared.page.Change.{Change}
 use Rattle.s38_base.specs.declared.page.Page.{Page}
-use Rattle.s38_codecs.specs.Codec.{◌>>=◌, copies, is_zero}
-use Rattle.s38_codecs.specs.Formats.{Spelling}
+use Rattle.s38_codec.specs.Codec.{byte_is_zero, copies, ◌>>=◌}
+use Rattle.s38_codec.specs.Formats.{Spelling}
 
 -- how many pages so many bytes begin
 abbrev pub needed : ℕ → ℕ
 needed len = (len + 511) / page_bytes
 
 -- a page that is put as a part of an object
-abbrev pub page_at : ℕ → ℕ → List ℕ → ℕ → Change
-page_at object part bytes tags = record { key = record { object = object; part = part }; page = Some (record { bytes = bytes; tags = tags }) }
+abbrev pub page_put_at : ℕ → ℕ → List ℕ → ℕ → Change
+page_put_at object part bytes tags = record { key = record { object = object; part = part }; page = Some (record { bytes = bytes; tags = tags }) }
 
 -- ---- a stream as pages
 
 -- so many pieces of a page's length
-unfoldable pub cut : ℕ → List ℕ → List (List ℕ)
-cut zero xs = []
-cut (suc n) xs = take page_bytes xs ∷ cut n (drop page_bytes xs)
+unfoldable pub page_pieces : ℕ → List ℕ → List (List ℕ)
+page_pieces zero xs = []
+page_pieces (suc n) xs = take page_bytes xs ∷ page_pieces n (drop page_bytes xs)
 
 -- filled with zeros to a length
-abbrev pub filled : ℕ → List ℕ → List ℕ
-filled len xs = xs ++ copies (len - length xs) 0
+abbrev pub zero_filled : ℕ → List ℕ → List ℕ
+zero_filled len xs = xs ++ copies (len - length xs) 0
 
 -- pieces as the parts of an object from a first one on, with these tags; where the tags end they are 0
-unfoldable pub numbered : ℕ → ℕ → List (List ℕ) → List ℕ → List Change
-numbered object first [] tags = []
-numbered object first (xs ∷ pages) [] = page_at object first xs 0 ∷ numbered object (first + 1) pages []
-numbered object first (xs ∷ pages) (t ∷ tags) = page_at object first xs t ∷ numbered object (first + 1) pages tags
+unfoldable pub numbered_pieces : ℕ → ℕ → List (List ℕ) → List ℕ → List Change
+numbered_pieces object first [] tags = []
+numbered_pieces object first (xs ∷ pages) [] = page_put_at object first xs 0 ∷ numbered_pieces object (first + 1) pages []
+numbered_pieces object first (xs ∷ pages) (t ∷ tags) = page_put_at object first xs t ∷ numbered_pieces object (first + 1) pages tags
 
 -- the parts that hold a stream; the last page is filled with zeros
 abbrev pub stream_parts : ℕ → ℕ → List ℕ → List ℕ → List Change
-stream_parts object first bytes tags = numbered object first (cut (needed (length bytes)) (filled (page_bytes * needed (length bytes)) bytes)) tags
+stream_parts object first bytes tags = numbered_pieces object first (page_pieces (needed (length bytes)) (zero_filled (page_bytes * needed (length bytes)) bytes)) tags
 
 -- the parts that hold a value
 abbrev pub print_parts : {A : Type 0} → ℕ → ℕ → Spelling A → (A → List ℕ) → A → List Change
@@ -42,16 +42,16 @@ print_parts object first s tags_of x = stream_parts object first (s.print x) (ta
 
 -- ---- the stream of some parts
 
-abbrev pub bytes_of : Option Page → List ℕ
-bytes_of None = []
-bytes_of (Some page) = page.bytes
+abbrev pub bytes_of_page : Option Page → List ℕ
+bytes_of_page None = []
+bytes_of_page (Some page) = page.bytes
 
 abbrev pub tags_of : Option Page → ℕ
 tags_of None = 0
 tags_of (Some page) = page.tags
 
 abbrev pub page_bytes_in : List Change → List (List ℕ)
-page_bytes_in parts = map (λ c. bytes_of c.page) parts
+page_bytes_in parts = map (λ c. bytes_of_page c.page) parts
 
 abbrev pub stream : List Change → List ℕ
 stream parts = concat (page_bytes_in parts)
@@ -72,7 +72,7 @@ are_pages object first (suc n) (c ∷ parts) = is_page object first c && are_pag
 
 -- a stream of this length, after which the last page is filled with zeros
 abbrev pub unfilled : ℕ → List ℕ → Option (List ℕ)
-unfilled len xs = if list_all is_zero (drop len xs) then Some (take len xs) else None
+unfilled len xs = if list_all byte_is_zero (drop len xs) then Some (take len xs) else None
 
 -- the stream of this length that the parts hold from a first one on
 abbrev pub stream_of : ℕ → ℕ → ℕ → List Change → Option (List ℕ)

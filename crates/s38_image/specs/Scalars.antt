@@ -4,8 +4,8 @@ use Rattle.s38_base.specs.declared.attr.Attr.{Attr}
 use Rattle.s38_base.specs.declared.attr.Attr.TheVariants as attrs
 use Rattle.s38_base.specs.declared.pointer.Pointer.{Pointer}
 use Rattle.s38_base.specs.declared.pointer.Pointer.TheVariants as pointers
-use Rattle.s38_codecs.specs.Codec.{Codec, behind, byte, only, seen}
-use Rattle.s38_codecs.specs.Formats.{u32, u64}
+use Rattle.s38_codec.specs.Codec.{Codec, byte, dependent_pair, only, seen}
+use Rattle.s38_codec.specs.Formats.{u32, u64}
 
 -- ---- attributes
 
@@ -32,7 +32,7 @@ abbrev pub is_attr : AttrBytes → Bool
 is_attr x = (nat_le 1 x.0 && nat_le x.0 4) && (not (x.0 == 3) || (x.1.0 == 0))
 
 abbrev pub attr : Codec Attr
-attr = seen attr_by attr_bytes (only is_attr (behind byte (λ _. behind byte (λ _. byte))))
+attr = seen attr_by attr_bytes (only is_attr (dependent_pair byte (λ _. dependent_pair byte (λ _. byte))))
 
 -- ---- pointers
 
@@ -61,8 +61,8 @@ abbrev pub is_item : PointerBytes → Bool
 is_item x = (x.0 == 3) && is_attr x.1.0
 
 -- a system pointer has rights and no offset, a space pointer no detail, and a data pointer an attribute
-abbrev pub is_pointer : PointerBytes → Bool
-is_pointer x = is_system x || (is_space x || is_item x)
+abbrev pub is_pointer_image : PointerBytes → Bool
+is_pointer_image x = is_system x || (is_space x || is_item x)
 
 abbrev pub pointer : Codec Pointer
-pointer = seen pointer_by pointer_bytes (only is_pointer (behind byte (λ _. behind (behind byte (λ _. behind byte (λ _. byte))) (λ _. behind u32 (λ _. u64)))))
+pointer = seen pointer_by pointer_bytes (only is_pointer_image (dependent_pair byte (λ _. dependent_pair (dependent_pair byte (λ _. dependent_pair byte (λ _. byte))) (λ _. dependent_pair u32 (λ _. u64)))))

@@ -1,11 +1,11 @@
--- What a store keeps of an object as it stands: every change that is not committed is taken back, and what is said
+-- What a store keeps of an object as it is now: every change that is not committed is taken back, and what is said
 -- of memory and of forcing is not kept.
 use Rattle.std.specs.Prelude.{ℕ, ◌+◌, true, ◌==◌, List, [], ◌∷◌, Option, Some, None, find, if◌then◌else◌}
-use Rattle.s38_commits.specs.Changes.{is_of}
+use Rattle.s38_commits.specs.Changes.{is_of_entry}
 use Rattle.s38_commits.specs.Unit.{CommitUnit}
 use Rattle.s38_commits.specs.Units.{UnitMap, owner}
 use Rattle.s38_commits.specs.declared.change.UnitChange.{UnitChange}
-use Rattle.s38_dataspaces.specs.Entries.{Entry}
+use Rattle.s38_dataspaces.specs.Entries.{DataEntry}
 use Rattle.s38_dataspaces.specs.Table.{DataTable}
 use Rattle.s38_image.specs.declared.stored.Stored.{Stored}
 use Rattle.s38_journals.specs.Journals.{JournalList}
@@ -13,24 +13,24 @@ use Rattle.s38_rules.specs.declared.object.Body.{Body}
 use Rattle.s38_rules.specs.declared.object.Body.TheVariants as bodies
 use Rattle.s38_rules.specs.declared.object.Object.{Object}
 
-abbrev pub first_of : ℕ → ℕ → Option (ℕ × CommitUnit) → Option UnitChange
-first_of space at None = None
-first_of space at (Some e) = find (is_of space at) e.1.changes
+abbrev pub oldest_change_of : ℕ → ℕ → Option (ℕ × CommitUnit) → Option UnitChange
+oldest_change_of space at None = None
+oldest_change_of space at (Some e) = find (is_of_entry space at) e.1.changes
 
 -- the first change of an entry by the unit that has changed it
 abbrev pub first_change : UnitMap → ℕ → ℕ → Option UnitChange
-first_change units space at = first_of space at (owner units space at)
+first_change units space at = oldest_change_of space at (owner units space at)
 
-abbrev pub before_change : Entry → Option UnitChange → Entry
+abbrev pub before_change : DataEntry → Option UnitChange → DataEntry
 before_change entry None = entry
 before_change entry (Some change) = change.before
 
--- the entry that stood before the unit that has changed it; it stays as it is without one
-abbrev pub settled_entry : UnitMap → ℕ → ℕ → Entry → Entry
+-- the entry before the unit of changes that has changed it; without such a unit it stays as it is
+abbrev pub settled_entry : UnitMap → ℕ → ℕ → DataEntry → DataEntry
 settled_entry units space at entry = before_change entry (first_change units space at)
 
 -- the same of all entries, whose ordinals count on from one
-abbrev pub settled_entries : UnitMap → ℕ → ℕ → List Entry → List Entry
+abbrev pub settled_entries : UnitMap → ℕ → ℕ → List DataEntry → List DataEntry
 settled_entries units space at [] = []
 settled_entries units space at (entry ∷ entries) = settled_entry units space at entry ∷ settled_entries units space (at + 1) entries
 
@@ -51,8 +51,8 @@ settled_sequence last (bodies.DataSpace d) = if d.port.0 == 0 then 0 else last
 settled_sequence last _ = 0
 
 -- what a store keeps of an object, with the units as they are and the last sequence of its journal space
-abbrev pub settled : UnitMap → ℕ → Object → Stored
-settled units last o = record {
+abbrev pub committed_image : UnitMap → ℕ → Object → Stored
+committed_image units last o = record {
   object = record o { on_disk = true; body = settled_body units o.number.0 o.body };
   sequence = settled_sequence last o.body;
 }

@@ -1,10 +1,11 @@
--- The body of a space: its cells, sixteen bytes each. Which of them are pointers stands in the tags of the pages.
+-- The body of a space: its cells, sixteen bytes each. The tags of the pages say which of them are pointers.
 use Rattle.std.specs.Prelude.{ℕ, zero, suc, ◌+◌, ◌*◌, ◌/◌, ◌%◌, Bool, true, false, ◌&&◌, ◌==◌, List, [], ◌∷◌, length, take, drop, map, Option, Some, None, is_some, nat_le}
 use Rattle.std.specs.List.{flat_map}
 use Rattle.s38_base.specs.declared.pointer.Pointer.{Pointer}
-use Rattle.s38_codecs.specs.Codec.{Codec, Part, bytes, each, only, under, whole}
-use Rattle.s38_codecs.specs.Formats.{Spelling}
+use Rattle.s38_codec.specs.Codec.{Case, Codec, bytes, each, only, under, whole}
+use Rattle.s38_codec.specs.Formats.{Spelling}
 use Rattle.s38_image.specs.Pages.{needed}
+use Rattle.s38_image.specs.PartPlaces.{page_cells}
 use Rattle.s38_image.specs.Scalars.{pointer}
 use Rattle.s38_memory.specs.Tagged.{bytes_in}
 use Rattle.s38_memory.specs.declared.cell.Cell.{Cell}
@@ -12,16 +13,16 @@ use Rattle.s38_memory.specs.declared.cell.Cell.TheVariants as cells
 
 -- ---- the tags
 
-abbrev pub pointer_in : Cell → Option Pointer
-pointer_in (cells.Tagged p) = Some p
-pointer_in (cells.Bytes xs) = None
+abbrev pub cell_pointer : Cell → Option Pointer
+cell_pointer (cells.Tagged p) = Some p
+cell_pointer (cells.Bytes xs) = None
 
 abbrev pub bytes_held : Cell → Option (List ℕ)
 bytes_held (cells.Tagged p) = None
 bytes_held (cells.Bytes xs) = Some xs
 
 abbrev pub is_tagged : Cell → Bool
-is_tagged c = is_some (pointer_in c)
+is_tagged c = is_some (cell_pointer c)
 
 abbrev pub bit : Bool → ℕ
 bit true = 1
@@ -31,10 +32,6 @@ bit false = 0
 abbrev pub tag_number : List Bool → ℕ
 tag_number [] = 0
 tag_number (f ∷ fs) = bit f + 2 * tag_number fs
-
--- how many cells a page holds
-abbrev pub page_cells : ℕ
-page_cells = 32
 
 -- of so many pages
 unfoldable pub tag_numbers : ℕ → List Bool → List ℕ
@@ -56,10 +53,10 @@ flags_in tags = flat_map (bits page_cells) tags
 
 -- ---- the cells
 
-abbrev pub tagged_part : Part Pointer Cell
-tagged_part = record { of = pointer_in; make = cells.Tagged }
+abbrev pub tagged_part : Case Pointer Cell
+tagged_part = record { of = cell_pointer; make = cells.Tagged }
 
-abbrev pub plain_part : Part (List ℕ) Cell
+abbrev pub plain_part : Case (List ℕ) Cell
 plain_part = record { of = bytes_held; make = cells.Bytes }
 
 -- a cell of which is known whether it is a pointer
@@ -75,8 +72,8 @@ abbrev pub is_some_cell : List Cell → Bool
 is_some_cell cs = nat_le 1 (length cs) && nat_le (length cs) 1048576
 
 -- the cells of a space whose pages have these tags
-abbrev pub space : List ℕ → Spelling (List Cell)
-space tags = record {
+abbrev pub space_form : List ℕ → Spelling (List Cell)
+space_form tags = record {
   print = λ cs. bytes_in cs;
   read = λ bs. whole (only is_some_cell (cells_by (take (length bs / 16) (flags_in tags)))) bs;
 }

@@ -1,7 +1,7 @@
 -- What is told of parts that were read: the value, or the first part at fault, unless memory is refused.
 use Rattle.std.specs.Prelude.{◌≡◌, ℕ, List, [], Option, Some, None, Result, Ok, Err}
-use Rattle.s38_codecs.specs.declared.fault.ReadFault.{ReadFault}
-use Rattle.s38_codecs.specs.declared.fault.ReadFault.TheVariants as reads
+use Rattle.s38_codec.specs.declared.fault.ReadFault.{ReadFault}
+use Rattle.s38_codec.specs.declared.fault.ReadFault.TheVariants as reads
 use Rattle.s38_image.specs.declared.fault.ImageFault.{ImageFault}
 use Rattle.s38_image.specs.declared.fault.ImageFault.TheVariants as faults
 

@@ -2,29 +2,26 @@
 ghost use Rattle.std.specs.Bool.{OnTrue};
 ghost use Rattle.std.specs.Prelude.{◌≡◌, ◌+◌, ◌*◌, ◌<◌, ◌≤◌, ◌^◌, IfOk, is_some, length};
 ghost use Rattle.std.specs.List.{range_with_len};
-ghost use Rattle.s38_codecs.specs.Reading.{Gives};
-ghost use Rattle.s38_image.specs.Headers.{header, is_within, longest_body, rows};
-ghost use Rattle.s38_image.specs.Images.{after_leading, first_missing, has_part, header_in, leading, limited, object_of, or_fault, rows_in, wanted, with_all, with_body, with_rows, ◌>>>◌};
+ghost use Rattle.s38_codec.specs.Reading.{Gives};
+ghost use Rattle.s38_image.specs.Headers.{header, header_is_within, longest_body, rows};
+ghost use Rattle.s38_image.specs.Images.{after_leading, first_missing, has_part, header_in_parts, leading, limited, object_of_parts, or_fault, rows_in_parts, wanted_parts, with_all_pages, with_body, with_row_parts, ◌>>>◌};
 ghost use Rattle.s38_image.specs.Pages.{needed, no_tags};
 ghost use Rattle.s38_image.specs.Steps.{read_tagged};
 ghost use Rattle.s38_image.specs.Telling.{Tells, fault_of, missing};
 
-use crate::body_images::{BODY_PART, body_in};
+use crate::body_images::body_in;
 use crate::fault::ImageFault;
 use crate::header::Header;
 use crate::heads::header_of;
+use crate::part_places::{BODY_PART, ROW_BYTES, ROWS_PART};
 use crate::rows::rows_of;
 use crate::stored::Stored;
 use crate::stream::{are_untagged, is_page, needed, stream_of};
 use s38_base::{Change, Kind, ObjNum};
-use s38_codecs::ReadFault;
+use s38_codec::ReadFault;
 use s38_rules::{Object, RowList};
 use std::alloc::Global;
 
-/// The first part of the rows.
-const ROWS_PART: u32 = 1;
-/// How many bytes a row has.
-const ROW_BYTES: u32 = 9;
 /// How many private rows an object has at most.
 const MOST_ROWS: u32 = 4096;
 /// How many bytes the body of a journal space has at most.
@@ -70,7 +67,7 @@ fn header_from(front: &[Change], bytes: &[u8]) -> Result<Header, ReadFault>
 
 /// The header of a number, from its parts below 1. Its limits are not looked at.
 pub fn header_in(alloc: Global, number: u64, front: &[Change]) -> Result<Header, ReadFault>
-    ensures { Gives (λ header. header) result (header_in number front.now) }
+    ensures { Gives (λ header. header) result (header_in_parts number front.now) }
 {
     let bytes = stream_of(alloc, number, 0, 512, front)?;
     header_from(front, &bytes)
@@ -91,7 +88,7 @@ fn longest_body(limit: u32, kind: Kind) -> u32
 /// Whether there are not too many rows, and the body is not too long.
 fn is_within(limit: u32, header: &Header) -> bool
     requires { limit ≤ 16777216 }
-    ensures within { result ≡ is_within limit header.now }
+    ensures within { result ≡ header_is_within limit header.now }
     ensures rows { OnTrue result (header.now.rows ≤ 4096) }
     ensures body { OnTrue result (header.now.body ≤ 16777216) }
 {
@@ -106,7 +103,7 @@ fn limited_header(
     front: &[Change],
 ) -> Result<Header, ImageFault>
     requires { limit ≤ 16777216 }
-    ensures tells { Tells (λ header. header) number result (or_fault 0 (header_in number front.now) >>> limited limit) }
+    ensures tells { Tells (λ header. header) number result (or_fault 0 (header_in_parts number front.now) >>> limited limit) }
     ensures rows { IfOk result (λ header. header.rows ≤ 4096) }
     ensures body { IfOk result (λ header. header.body ≤ 16777216) }
 {
@@ -187,7 +184,7 @@ fn missing_body(number: u64, parts: &[Change], header: &Header) -> Option<u32>
 fn missing(number: u64, parts: &[Change], header: &Header) -> Option<u32>
     requires rows { header.now.rows ≤ 4096 }
     requires body { header.now.body ≤ 16777216 }
-    ensures { first_missing number parts.now (wanted header.now) ≡ missing result }
+    ensures { first_missing number parts.now (wanted_parts header.now) ≡ missing result }
 {
     match missing_rows(number, parts, header) {
         Some(part) => Some(part),
@@ -215,7 +212,7 @@ fn rows_from(
 /// So many rows, from the parts below 128.
 fn rows_in(alloc: Global, number: u64, count: u32, middle: &[Change]) -> Result<RowList, ReadFault>
     requires { count ≤ 4096 }
-    ensures { Gives (λ rows. rows) result (rows_in number count middle.now) }
+    ensures { Gives (λ rows. rows) result (rows_in_parts number count middle.now) }
 {
     let bytes = stream_of(alloc, number, ROWS_PART, ROW_BYTES * count, middle)?;
     rows_from(alloc, count, middle, &bytes)
@@ -259,7 +256,7 @@ fn with_rows(
 ) -> Result<Stored, ImageFault>
     requires rows { header.now.rows ≤ 4096 }
     requires body { header.now.body ≤ 16777216 }
-    ensures { Tells (λ stored. stored) number result (with_rows number header.now middle.now last.now) }
+    ensures { Tells (λ stored. stored) number result (with_row_parts number header.now middle.now last.now) }
 {
     match rows_in(alloc, number, header.rows, middle) {
         Ok(rows) => with_body(alloc, number, header, rows, last),
@@ -277,7 +274,7 @@ fn with_all(
 ) -> Result<Stored, ImageFault>
     requires rows { header.now.rows ≤ 4096 }
     requires body { header.now.body ≤ 16777216 }
-    ensures { Tells (λ stored. stored) number result (with_all number parts.now header.now later.now) }
+    ensures { Tells (λ stored. stored) number result (with_all_pages number parts.now header.now later.now) }
 {
     if let Some(part) = missing(number, parts, header) {
         return Err(fault_of(number, part, ReadFault::BadForm));
@@ -289,7 +286,7 @@ fn with_all(
 /// The object of a number that its parts hold, where bodies have so many bytes at most, and those of journal spaces
 /// 16,777,216. `BadImage` exactly where the parts are those of no object; it names the first part at fault, in the order
 /// header, missing page, rows, body.
-#[tactic(auto, unfolding(crate::specs::Images::object_of))]
+#[tactic(auto, unfolding(crate::specs::Images::object_of_parts))]
 pub fn from_parts(
     alloc: Global,
     limit: u32,
@@ -297,7 +294,7 @@ pub fn from_parts(
     parts: &[Change],
 ) -> Result<Stored, ImageFault>
     requires { limit ≤ 16777216 }
-    ensures { Tells (λ stored. stored) number result (object_of limit number parts.now) }
+    ensures { Tells (λ stored. stored) number result (object_of_parts limit number parts.now) }
 {
     let (front, later) = split_at_part(ROWS_PART, parts);
     match limited_header(alloc, limit, number, front) {

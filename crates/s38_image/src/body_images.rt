@@ -1,8 +1,8 @@
 //! The body of an object, from its bytes and the tags of its pages.
 ghost use Rattle.std.specs.Prelude.{◌≡◌, ◌≤◌, [], length};
 ghost use Rattle.std.specs.List.{list_all};
-ghost use Rattle.s38_codecs.specs.Codec.{is_zero};
-ghost use Rattle.s38_codecs.specs.Reading.{Gives};
+ghost use Rattle.s38_codec.specs.Codec.{byte_is_zero};
+ghost use Rattle.s38_codec.specs.Reading.{Gives};
 ghost use Rattle.s38_image.specs.Bodies.{body, body_tags};
 ghost use Rattle.s38_image.specs.Pages.{needed, tags_in};
 ghost use Rattle.s38_image.specs.Images.{body_in};
@@ -11,18 +11,16 @@ ghost use Rattle.s38_image.specs.Steps.{body_image, has_tags, read_tagged};
 use crate::data_spaces::data_space_in;
 use crate::indexes::index_in;
 use crate::journals::journal_in;
+use crate::part_places::BODY_PART;
 use crate::programs::program_in;
 use crate::queues::queue_in;
 use crate::small_bodies::{block_in, cursor_in, port_in, profile_in};
 use crate::spaces::{are_tags, space_in};
 use crate::stream::{stream_of, tags_in};
 use s38_base::{Change, Kind};
-use s38_codecs::ReadFault;
+use s38_codec::ReadFault;
 use s38_rules::Body;
 use std::alloc::Global;
-
-/// The first part of a body.
-pub const BODY_PART: u32 = 128;
 
 /// A context has no bytes.
 fn context_in(bytes: &[u8]) -> Result<(Body, u64), ReadFault>
@@ -82,7 +80,7 @@ pub fn body_of(
 }
 
 fn are_zero(tags: &[u32]) -> bool
-    ensures { result ≡ list_all is_zero tags.now }
+    ensures { result ≡ list_all byte_is_zero tags.now }
 {
     tags.iter().all(|tag| *tag == 0)
 }

@@ -1,8 +1,8 @@
 //! The body of a data space.
 ghost use Rattle.std.specs.Prelude.{◌≡◌, ◌≤◌, ◌++◌, ◌∷◌, [], IfErr, IfOk, IsTrue, None, OnOk, Some, length, true, if◌then◌else◌};
-ghost use Rattle.s38_codecs.specs.Codec.{only, times, whole};
-ghost use Rattle.s38_codecs.specs.Formats.{short_list, u64 as long};
-ghost use Rattle.s38_codecs.specs.Reading.{Gives};
+ghost use Rattle.s38_codec.specs.Codec.{only, times, whole};
+ghost use Rattle.s38_codec.specs.Formats.{short_list, u64 as long};
+ghost use Rattle.s38_codec.specs.Reading.{Gives};
 ghost use Rattle.s38_dataspaces.specs.Table.{are_fields, entry_len};
 ghost use Rattle.s38_image.specs.DataSpaces.{data_space, is_sequence, is_slot, slot, slot_by};
 ghost use Rattle.s38_image.specs.Scalars.{attr};
@@ -11,7 +11,7 @@ ghost use Rattle.s38_dataspaces.specs.Values.{have_values};
 
 use crate::scalars::attr_at;
 use s38_base::{Attr, AttrList, ObjNum};
-use s38_codecs::{ReadFault, byte_at, bytes_at, is_zeros, u16_at, u32_at, u64_at};
+use s38_codec::{ReadFault, byte_at, bytes_at, is_zeros, u16_at, u32_at, u64_at};
 use s38_dataspaces::{DataSpace, are_fields, have_values};
 use s38_rules::DataBody;
 use std::alloc::Global;
@@ -57,7 +57,7 @@ fn fields_at(alloc: Global, from: &[u8]) -> Result<(AttrList, &[u8]), ReadFault>
     Ok((AttrList::from_vec(attrs), rest))
 }
 
-/// Whether an entry stands, by its number: 1, or 0 where it is deleted and its bytes are zero.
+/// Whether there is an entry, by its number: 1, or 0 where it is deleted and its bytes are zero.
 fn stands(fields: &[Attr], number: u8, entry: &[u8]) -> Result<bool, ReadFault>
     requires { length entry.now ≡ entry_len fields.now }
     ensures read { Gives (λ stands. slot_value stands entry.now) result
@@ -75,7 +75,7 @@ fn stands(fields: &[Attr], number: u8, entry: &[u8]) -> Result<bool, ReadFault>
     Ok(number == 1)
 }
 
-/// What stands under an ordinal: whether an entry stands, and its bytes.
+/// What an ordinal holds: whether there is an entry, and its bytes.
 fn slot_at<'a>(space: &DataSpace, from: &'a [u8]) -> Result<((bool, &'a [u8]), &'a [u8]), ReadFault>
     ensures read { Gives (λ x. (slot_value x.0.0 x.0.1.now, x.1.now)) result ((slot space.now.fields).read from.now) }
     ensures len { IfOk result (λ x. length x.0.1.now ≡ entry_len space.now.fields) }

@@ -1,13 +1,13 @@
-//! The fields of a header and of rows, as they stand at the front of bytes.
+//! The fields of a header and of rows, read at the front of bytes.
 ghost use Rattle.std.specs.Prelude.{◌≡◌, None, Some, length, take, if◌then◌else◌};
-ghost use Rattle.s38_codecs.specs.Codec.{byte, is_zero, only};
-ghost use Rattle.s38_codecs.specs.Formats.{u32 as word};
-ghost use Rattle.s38_codecs.specs.Reading.{Gives};
-ghost use Rattle.s38_image.specs.Headers.{header, is_kind, is_mark, is_padded, kind, kind_by, mark, name, object, rights, row};
+ghost use Rattle.s38_codec.specs.Codec.{byte, byte_is_zero, only};
+ghost use Rattle.s38_codec.specs.Formats.{u32 as word};
+ghost use Rattle.s38_codec.specs.Reading.{Gives};
+ghost use Rattle.s38_image.specs.Headers.{header, is_kind, is_mark, is_padded, kind, kind_by, mark, name, object_number_form, rights, row_form};
 
 use crate::header::Header;
 use s38_base::{Id, Kind, Name, ObjNum, Rights};
-use s38_codecs::{ReadFault, byte_at, bytes_at, is_zeros, u16_at, u32_at, u64_at};
+use s38_codec::{ReadFault, byte_at, bytes_at, is_zeros, u16_at, u32_at, u64_at};
 use s38_rules::PrivateRow;
 
 /// The mark of a header.
@@ -18,7 +18,7 @@ const UNUSED: usize = 448;
 
 /// The number of an object.
 pub fn object_at(from: &[u8]) -> Result<(ObjNum, &[u8]), ReadFault>
-    ensures { Gives (λ x. (x.0, x.1.now)) result (object.read from.now) }
+    ensures { Gives (λ x. (x.0, x.1.now)) result (object_number_form.read from.now) }
 {
     let (number, rest) = u64_at(from)?;
     Ok((ObjNum(number), rest))
@@ -93,7 +93,7 @@ fn name_at(from: &[u8]) -> Result<(Name, &[u8]), ReadFault>
 
 /// A zero byte.
 fn zero_at(from: &[u8]) -> Result<&[u8], ReadFault>
-    ensures { Gives (λ x. (0, x.now)) result ((only is_zero byte).read from.now) }
+    ensures { Gives (λ x. (0, x.now)) result ((only byte_is_zero byte).read from.now) }
 {
     let (byte, rest) = byte_at(from)?;
     if byte != 0 {
@@ -115,7 +115,7 @@ fn mark_at(from: &[u8]) -> Result<&[u8], ReadFault>
 
 /// A private row: a user, and rights.
 pub fn row_at(from: &[u8]) -> Result<(PrivateRow, &[u8]), ReadFault>
-    ensures { Gives (λ x. (x.0, x.1.now)) result (row.read from.now) }
+    ensures { Gives (λ x. (x.0, x.1.now)) result (row_form.read from.now) }
 {
     let (user, rest) = object_at(from)?;
     let (rights, rest) = rights_at(rest)?;

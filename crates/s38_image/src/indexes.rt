@@ -1,14 +1,14 @@
 //! The body of an index.
 ghost use Rattle.std.specs.Prelude.{◌≡◌, ◌++◌, ◌∷◌, [], IfErr, IfOk, OnOk, true};
 ghost use Rattle.std.specs.Option.{option_copied};
-ghost use Rattle.s38_codecs.specs.Codec.{byte, only, times, whole};
-ghost use Rattle.s38_codecs.specs.Formats.{short_text};
-ghost use Rattle.s38_codecs.specs.Reading.{Gives};
-ghost use Rattle.s38_image.specs.Indexes.{are_rising, index, is_index};
+ghost use Rattle.s38_codec.specs.Codec.{byte, only, times, whole};
+ghost use Rattle.s38_codec.specs.Formats.{short_text};
+ghost use Rattle.s38_codec.specs.Reading.{Gives};
+ghost use Rattle.s38_image.specs.Indexes.{entries_rise, index, is_index};
 ghost use Rattle.s38_image.specs.Steps.{is_after};
 
 use s38_base::Relation;
-use s38_codecs::{ReadFault, byte_at, short_text_at, u32_at};
+use s38_codec::{ReadFault, byte_at, short_text_at, u32_at};
 use s38_indexes::Index;
 use std::alloc::Global;
 
@@ -39,7 +39,7 @@ fn is_after(previous: Option<&[u8]>, entry: &[u8]) -> bool
 /// Adds an entry that comes after all others and is not too long. The image of the index is no longer than the bytes
 /// that are read, so it is never full.
 fn add(index: &mut Index, entry: &[u8]) -> Result<(), ReadFault>
-    requires { are_rising (index.old.entries ++ entry.now ∷ []) ≡ true }
+    requires { entries_rise (index.old.entries ++ entry.now ∷ []) ≡ true }
     ensures ok { OnOk result (index.new ≡ record index.old { entries = index.old.entries ++ entry.now ∷ [] }) }
     ensures err { IfErr result (λ fault. fault ≡ ReadFault.NoMemory) }
 {
@@ -51,7 +51,7 @@ fn add(index: &mut Index, entry: &[u8]) -> Result<(), ReadFault>
 
 /// An index whose entries, so many, are all of the bytes, and rise.
 fn entries_in(alloc: Global, longest: u8, count: u32, from: &[u8]) -> Result<Index, ReadFault>
-    ensures read { Gives (λ index. index.entries) result (whole (only are_rising (times count (short_text longest))) from.now) }
+    ensures read { Gives (λ index. index.entries) result (whole (only entries_rise (times count (short_text longest))) from.now) }
     ensures longest { IfOk result (λ index. index.longest ≡ longest) }
 {
     let mut index = Index::new(alloc, longest);

@@ -1,19 +1,19 @@
 //! The body of a journal space.
 ghost use Rattle.std.specs.Prelude.{◌≡◌, ◌+◌, ◌++◌, ◌∷◌, [], IfErr, IfOk, None, OnOk, Some, length, true, if◌then◌else◌};
-ghost use Rattle.s38_codecs.specs.Reading.{Gives};
+ghost use Rattle.s38_codec.specs.Reading.{Gives};
 ghost use Rattle.s38_image.specs.Journals.{entry as entry_format, entry_kind, is_entry_kind, journal};
 ghost use Rattle.s38_image.specs.Steps.{has_entry, journal_of};
-ghost use Rattle.s38_journals.specs.Entries.{entered, may_stand};
-ghost use Rattle.s38_journals.specs.Stored.{kind_of};
+ghost use Rattle.s38_journals.specs.Entries.{logged_entry, may_be_at};
+ghost use Rattle.s38_journals.specs.Stored.{entry_kind_of};
 
 use crate::heads::object_at;
-use s38_codecs::{ReadFault, byte_at, bytes_at, u16_at, u32_at, u64_at};
+use s38_codec::{ReadFault, byte_at, bytes_at, u16_at, u32_at, u64_at};
 use s38_journals::{EntryKind, Journal, JournalEntry};
 use std::alloc::Global;
 
 /// The kind of entries of a number.
 fn kind_of(code: u8) -> Option<EntryKind>
-    ensures { result ≡ (if is_entry_kind code then Some (kind_of code) else None) }
+    ensures { result ≡ (if is_entry_kind code then Some (entry_kind_of code) else None) }
 {
     match code {
         1 => Some(EntryKind::Insert),
@@ -36,17 +36,17 @@ fn kind_at(from: &[u8]) -> Result<(EntryKind, &[u8]), ReadFault>
     }
 }
 
-/// Whether an entry may stand at a sequence, where it says so long a length and this sequence.
+/// Whether an entry may have a sequence, where it says so long a length and this sequence.
 fn is_entry(sequence: u64, len: u32, said: u64, entry: &JournalEntry) -> bool
-    ensures { result ≡ has_entry sequence len said (entered entry.now) }
+    ensures { result ≡ has_entry sequence len said (logged_entry entry.now) }
 {
-    said == sequence && entry.may_stand(sequence) && len == entry.len()
+    said == sequence && entry.may_be_at(sequence) && len == entry.len()
 }
 
 /// The entry of a sequence.
 fn entry_at(sequence: u64, from: &[u8]) -> Result<(JournalEntry<'_>, &[u8]), ReadFault>
-    ensures read { Gives (λ x. (entered x.0, x.1.now)) result ((entry_format sequence).read from.now) }
-    ensures stands { IfOk result (λ x. may_stand sequence (entered x.0) ≡ true) }
+    ensures read { Gives (λ x. (logged_entry x.0, x.1.now)) result ((entry_format sequence).read from.now) }
+    ensures stands { IfOk result (λ x. may_be_at sequence (logged_entry x.0) ≡ true) }
 {
     let (len, rest) = u32_at(from)?;
     let (said, rest) = u64_at(rest)?;
@@ -74,11 +74,11 @@ fn entry_at(sequence: u64, from: &[u8]) -> Result<(JournalEntry<'_>, &[u8]), Rea
     Ok((entry, rest))
 }
 
-/// Adds an entry that may stand next. The entries are no longer than the bytes that are read, so there is always room.
+/// Adds an entry that may come next. The entries are no longer than the bytes that are read, so there is always room.
 fn add(journal: &mut Journal, entry: &JournalEntry) -> Result<(), ReadFault>
     requires spare { journal.old.spare ≡ 0 }
-    requires stands { may_stand (length journal.old.entries + 1) (entered entry.now) ≡ true }
-    ensures entries { OnOk result (journal.new.entries ≡ journal.old.entries ++ entered entry.now ∷ []) }
+    requires stands { may_be_at (length journal.old.entries + 1) (logged_entry entry.now) ≡ true }
+    ensures entries { OnOk result (journal.new.entries ≡ journal.old.entries ++ logged_entry entry.now ∷ []) }
     ensures spare { OnOk result (journal.new.spare ≡ 0) }
     ensures err { IfErr result (λ fault. fault ≡ ReadFault.NoMemory) }
 {

@@ -10,6 +10,7 @@ mod heads;
 mod indexes;
 mod journals;
 mod laws;
+mod part_places;
 mod programs;
 mod queues;
 mod rows;
@@ -27,6 +28,10 @@ pub use heads::{HEADER_MARK, header_of, object_at, row_at};
 pub use indexes::index_in;
 pub use journals::journal_in;
 pub use laws::{an_image_is_read_again, parts_are_those_of_their_object};
+pub use part_places::{
+    BODY_PART, CEILING_KEY, CEILING_MARK, CEILING_PARTS, HEADER_PART, PAGE_CELLS, ROW_BYTES,
+    ROWS_PART,
+};
 pub use programs::program_in;
 pub use queues::queue_in;
 pub use rows::rows_of;

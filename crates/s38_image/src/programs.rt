@@ -1,14 +1,14 @@
 //! The body of a program: the text of its template.
 ghost use Rattle.std.specs.Prelude.{◌≡◌, IfErr, IfOk};
-ghost use Rattle.s38_codecs.specs.Reading.{Gives};
-ghost use Rattle.s38_create.specs.Created.{created};
+ghost use Rattle.s38_codec.specs.Reading.{Gives};
+ghost use Rattle.s38_create.specs.Created.{program_created};
 ghost use Rattle.s38_image.specs.Pages.{same_list};
-ghost use Rattle.s38_image.specs.Programs.{only_template, program, program_of, template_in};
+ghost use Rattle.s38_image.specs.Programs.{only_template, program_form, program_of, template_spelled_in};
 ghost use Rattle.s38_template.specs.Printing.{printed_lines};
 ghost use Rattle.s38_template.specs.Reading.{read_of};
 
 use s38_code::{Code, CreateFault, Deck, Program, Template};
-use s38_codecs::ReadFault;
+use s38_codec::ReadFault;
 use s38_create::create;
 use s38_template::{DeckFault, print_template, read_deck};
 use std::alloc::Global;
@@ -28,7 +28,7 @@ fn only_template(deck: Deck) -> Result<Template, ReadFault>
 
 /// The template of a text that is a deck of one template and no jobs.
 fn template_in(alloc: Global, text: &[u8]) -> Result<Template, ReadFault>
-    ensures { Gives (λ template. template) result (template_in (read_of text.now)) }
+    ensures { Gives (λ template. template) result (template_spelled_in (read_of text.now)) }
 {
     match read_deck(alloc, text) {
         Ok(deck) => only_template(deck),
@@ -48,7 +48,7 @@ fn is_printed(alloc: Global, template: &Template, text: &[u8]) -> Result<bool, R
 
 /// The program of a template.
 fn program_of(alloc: Global, template: &Template) -> Result<Program, ReadFault>
-    ensures { Gives (λ program. program) result (program_of (created template.now)) }
+    ensures { Gives (λ program_form. program_form) result (program_of (program_created template.now)) }
 {
     match create(alloc, template) {
         Ok(program) => Ok(program),
@@ -59,7 +59,7 @@ fn program_of(alloc: Global, template: &Template) -> Result<Program, ReadFault>
 
 /// The program of the template that the bytes of a body spell, as it is printed.
 pub fn program_in(alloc: Global, bytes: &[u8]) -> Result<Code, ReadFault>
-    ensures { Gives (λ code. code) result (program.read bytes.now) }
+    ensures { Gives (λ code. code) result (program_form.read bytes.now) }
 {
     let template = template_in(alloc, bytes)?;
     if !is_printed(alloc, &template, bytes)? {

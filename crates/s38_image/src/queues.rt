@@ -1,12 +1,12 @@
 //! The body of a queue.
 ghost use Rattle.std.specs.Prelude.{◌≡◌, ◌+◌, ◌≤◌, [], IfErr, IfOk, OnOk, length};
-ghost use Rattle.s38_codecs.specs.Codec.{times, whole};
-ghost use Rattle.s38_codecs.specs.Reading.{Gives};
-ghost use Rattle.s38_image.specs.Queues.{is_queue, message as message_format, order, queue, queue_head};
-ghost use Rattle.s38_queues.specs.MessageQueue.{image_size, message, message_size, with_message};
+ghost use Rattle.s38_codec.specs.Codec.{times, whole};
+ghost use Rattle.s38_codec.specs.Reading.{Gives};
+ghost use Rattle.s38_image.specs.Queues.{is_queue, message_form as message_format, order_form, queue, queue_head};
+ghost use Rattle.s38_queues.specs.MessageQueue.{message, message_size, queue_image_size, with_message};
 
 use s38_base::limits::LONGEST_MESSAGE;
-use s38_codecs::{ReadFault, byte_at, bytes_at, text_at, u16_at, u32_at};
+use s38_codec::{ReadFault, byte_at, bytes_at, text_at, u16_at, u32_at};
 use s38_queues::{Order, Queue, QueueFault};
 use std::alloc::Global;
 
@@ -15,7 +15,7 @@ const LONGEST_KEY: u8 = 120;
 
 /// Which message is taken.
 fn order_at(from: &[u8]) -> Result<(Order, &[u8]), ReadFault>
-    ensures { Gives (λ x. (x.0, x.1.now)) result (order.read from.now) }
+    ensures { Gives (λ x. (x.0, x.1.now)) result (order_form.read from.now) }
 {
     let (number, rest) = byte_at(from)?;
     match number {
@@ -67,7 +67,7 @@ fn message_at(key_len: u8, longest: u16, from: &[u8]) -> Result<((&[u8], &[u8]),
 fn put(queue: &mut Queue, key: &[u8], text: &[u8]) -> Result<(), ReadFault>
     requires key { length key.now ≡ queue.old.key_len }
     requires text { length text.now ≤ queue.old.longest }
-    requires room { image_size queue.old.messages + message_size (message key.now text.now) ≤ 16777216 }
+    requires room { queue_image_size queue.old.messages + message_size (message key.now text.now) ≤ 16777216 }
     ensures ok { OnOk result (queue.new ≡ with_message queue.old (message key.now text.now)) }
     ensures err { IfErr result (λ fault. fault ≡ ReadFault.NoMemory) }
 {

@@ -1,11 +1,11 @@
 //! The private rows of an object.
 ghost use Rattle.std.specs.Prelude.{◌≡◌};
-ghost use Rattle.s38_codecs.specs.Codec.{times, whole};
-ghost use Rattle.s38_codecs.specs.Reading.{Gives};
-ghost use Rattle.s38_image.specs.Headers.{are_rising, row as row_format, rows};
+ghost use Rattle.s38_codec.specs.Codec.{times, whole};
+ghost use Rattle.s38_codec.specs.Reading.{Gives};
+ghost use Rattle.s38_image.specs.Headers.{row_form as row_format, rows, users_rise};
 
 use crate::heads::row_at;
-use s38_codecs::ReadFault;
+use s38_codec::ReadFault;
 use s38_rules::{PrivateRow, RowList};
 use std::alloc::Global;
 
@@ -28,7 +28,7 @@ fn rows_in(alloc: Global, count: u32, from: &[u8]) -> Result<Vec<PrivateRow>, Re
 
 /// Whether the users strictly rise.
 fn are_rising(rows: &[PrivateRow]) -> bool
-    ensures { result ≡ are_rising rows.now }
+    ensures { result ≡ users_rise rows.now }
 {
     for at in 1..rows.len() {
         if rows[at - 1].user.0 >= rows[at].user.0 {

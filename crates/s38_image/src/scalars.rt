@@ -1,12 +1,12 @@
-//! Attributes and pointers, as they stand at the front of bytes.
+//! Attributes and pointers, read at the front of bytes.
 ghost use Rattle.std.specs.Prelude.{◌≡◌, IfOk, IfSome, None, Some, if◌then◌else◌};
-ghost use Rattle.s38_codecs.specs.Reading.{Gives};
-ghost use Rattle.s38_image.specs.Scalars.{attr, attr_by, is_attr, is_pointer, pointer, pointer_by, PointerBytes};
+ghost use Rattle.s38_codec.specs.Reading.{Gives};
+ghost use Rattle.s38_image.specs.Scalars.{PointerBytes, attr, attr_by, is_attr, is_pointer_image, pointer, pointer_by};
 ghost use Rattle.s38_image.specs.Steps.{three_bytes};
 ghost use Rattle.s38_memory.specs.Image.{HasAttrImage, HasImage};
 
 use s38_base::{Attr, ObjNum, Pointer, Rights};
-use s38_codecs::{ReadFault, byte_at, u32_at, u64_at};
+use s38_codec::{ReadFault, byte_at, u32_at, u64_at};
 
 /// The attribute of a kind of attributes and two bytes.
 fn attr_of(kind: u8, first: u8, second: u8) -> Option<Attr>
@@ -60,7 +60,7 @@ pub fn attr_at(from: &[u8]) -> Result<(Attr, &[u8]), ReadFault>
 /// The pointer of a kind, three bytes of detail, an offset and an object.
 fn pointer_of(kind: u8, detail: (u8, u8, u8), offset: u32, object: u64) -> Option<Pointer>
     ensures read { let fields : PointerBytes = (kind, ((detail.0, (detail.1, detail.2)), (offset, object))) in
-        result ≡ (if is_pointer fields then Some (pointer_by fields) else None) }
+        result ≡ (if is_pointer_image fields then Some (pointer_by fields) else None) }
     ensures image { IfSome result (λ pointer. HasImage pointer) }
 {
     let object = ObjNum(object);

@@ -1,24 +1,24 @@
 //! Bodies of a few fields: profiles, cursors, ports and commit blocks.
 ghost use Rattle.std.specs.Prelude.{◌≡◌};
-ghost use Rattle.s38_codecs.specs.Codec.{whole};
-ghost use Rattle.s38_codecs.specs.Reading.{Gives};
-ghost use Rattle.s38_image.specs.Bodies.{block, cursor, is_special, port, profile};
+ghost use Rattle.s38_codec.specs.Codec.{whole};
+ghost use Rattle.s38_codec.specs.Reading.{Gives};
+ghost use Rattle.s38_image.specs.Bodies.{block, cursor, is_special_byte, port, profile_form};
 
 use crate::heads::object_at;
 use s38_base::Special;
-use s38_codecs::{ReadFault, byte_at, u32_at};
+use s38_codec::{ReadFault, byte_at, u32_at};
 use s38_rules::{Block, Cursor, Port};
 
 /// No bit but those of the two special authorities.
 fn is_special(bits: u8) -> bool
-    ensures { result ≡ is_special bits }
+    ensures { result ≡ is_special_byte bits }
 {
     matches!(bits, 0 | 0x40 | 0x80 | 0xC0)
 }
 
 /// The special authorities and the limit of a user.
 pub fn profile_in(bytes: &[u8]) -> Result<(Special, u32), ReadFault>
-    ensures { Gives (λ x. x) result (whole profile bytes.now) }
+    ensures { Gives (λ x. x) result (whole profile_form bytes.now) }
 {
     let (bits, rest) = byte_at(bytes)?;
     if !is_special(bits) {

@@ -1,20 +1,19 @@
 //! The body of a space: its cells, under the tags of its pages.
 ghost use Rattle.std.specs.Prelude.{◌≡◌, ◌==◌, ◌≤◌, ◌<◌, ◌^◌, All, IfOk, None, Some, false, length, map, slice_get, take, if◌then◌else◌};
-ghost use Rattle.s38_codecs.specs.Codec.{whole};
-ghost use Rattle.s38_codecs.specs.Reading.{Gives};
+ghost use Rattle.s38_codec.specs.Codec.{whole};
+ghost use Rattle.s38_codec.specs.Reading.{Gives};
 ghost use Rattle.s38_image.specs.Pages.{same_list};
-ghost use Rattle.s38_image.specs.Spaces.{cell as cell_format, cells_by, flags_in, is_tagged, space, tag_number, tag_numbers};
+ghost use Rattle.s38_image.specs.Spaces.{cell as cell_format, cells_by, flags_in, is_tagged, space_form, tag_number, tag_numbers};
 ghost use Rattle.s38_memory.specs.Cell.{IsCell};
 
+use crate::part_places::PAGE_CELLS;
 use crate::scalars::pointer_at;
-use s38_codecs::{ReadFault, bytes_at};
+use s38_codec::{ReadFault, bytes_at};
 use s38_memory::{Cell, Tagged};
 use std::alloc::Global;
 
 /// How many bytes a cell has.
 const CELL: usize = 16;
-/// How many cells a page holds.
-const PAGE_CELLS: usize = 32;
 /// How many cells a space has at most.
 const MOST_CELLS: usize = 1_048_576;
 
@@ -51,7 +50,7 @@ fn cell_at(is_pointer: bool, from: &[u8]) -> Result<(Cell, &[u8]), ReadFault>
     Ok((Cell::Tagged(pointer), rest))
 }
 
-/// The cells, where no bytes are left behind them.
+/// The cells, where no bytes are left after them.
 fn all_of(cells: Vec<Cell>, rest: &[u8]) -> Result<Vec<Cell>, ReadFault>
     ensures read { Gives (λ cells. cells.items) result (if length rest.now == 0 then Some cells.items else None) }
     ensures same { IfOk result (λ found. found.items ≡ cells.items) }
@@ -82,7 +81,7 @@ fn cells_in(alloc: Global, tags: &[u32], count: usize, from: &[u8]) -> Result<Ve
 
 /// The space that the bytes of a body hold under the tags of its pages.
 pub fn space_in(alloc: Global, tags: &[u32], bytes: &[u8]) -> Result<Tagged, ReadFault>
-    ensures { Gives (λ cells. cells) result ((space tags.now).read bytes.now) }
+    ensures { Gives (λ cells. cells) result ((space_form tags.now).read bytes.now) }
 {
     let cells = cells_in(alloc, tags, bytes.len() / CELL, bytes)?;
     if cells.is_empty() || cells.len() > MOST_CELLS {

@@ -2,13 +2,13 @@
 ghost use Rattle.std.specs.Prelude.{◌≡◌, ◌+◌, ◌≤◌, ◌<◌, ◌^◌, ◌++◌, IfErr, IfOk, OnOk, Some, is_some, length, true};
 ghost use Rattle.s38_image.specs.Fitting.{AreWhole};
 ghost use Rattle.std.specs.List.{list_all};
-ghost use Rattle.s38_codecs.specs.Codec.{is_zero};
-ghost use Rattle.s38_codecs.specs.Reading.{Gives};
-ghost use Rattle.s38_image.specs.Pages.{are_pages, bytes_of, is_page, needed, stream, stream_of, tags_in, tags_of, unfilled};
+ghost use Rattle.s38_codec.specs.Codec.{byte_is_zero};
+ghost use Rattle.s38_codec.specs.Reading.{Gives};
+ghost use Rattle.s38_image.specs.Pages.{are_pages, bytes_of_page, is_page, needed, stream, stream_of, tags_in, tags_of, unfilled};
 
 use s38_base::limits::PAGE_BYTES;
 use s38_base::{Change, Page};
-use s38_codecs::{ReadFault, is_zeros};
+use s38_codec::{ReadFault, is_zeros};
 use std::alloc::Global;
 
 /// How many pages so many bytes begin.
@@ -47,8 +47,8 @@ pub fn are_pages(number: u64, first: u32, count: u32, parts: &[Change]) -> bool
 
 /// Adds the bytes of a page.
 fn push_page(bytes: &mut Vec<u8>, page: &Option<Page>) -> Result<(), ReadFault>
-    ensures ok { OnOk result (bytes.new.items ≡ bytes.old.items ++ bytes_of page.now) }
-    ensures whole { is_some page.now ≡ true → length (bytes_of page.now) ≡ 512 }
+    ensures ok { OnOk result (bytes.new.items ≡ bytes.old.items ++ bytes_of_page page.now) }
+    ensures whole { is_some page.now ≡ true → length (bytes_of_page page.now) ≡ 512 }
     ensures err { IfErr result (λ fault. fault ≡ ReadFault.NoMemory) }
 {
     if let Some(page) = page {
@@ -127,7 +127,7 @@ fn tags_of(page: &Option<Page>) -> u32
 
 /// Whether no page has tags.
 pub fn are_untagged(parts: &[Change]) -> bool
-    ensures { result ≡ list_all is_zero (tags_in parts.now) }
+    ensures { result ≡ list_all byte_is_zero (tags_in parts.now) }
 {
     for change in parts {
         if tags_of(&change.page) != 0 {

@@ -28,7 +28,7 @@ one_more : (n : ℕ) → 1 + n ≡ suc n
 one_more n = omega arith
 
 module _ {X : Type 0} (p : X → Bool) where
-  -- no element passes behind one that does not
+  -- no element passes after one that does not
   abbrev pub IsCut : List X → Type 0
   IsCut [] = Unit {0}
   IsCut (x ∷ xs) = (p x ≡ false → AllByRecursion (λ y. p y ≡ false) xs) × IsCut xs
@@ -131,7 +131,7 @@ module _ {X : Type 0} (p : X → Bool) where
   passes_last last [] h at = absurd (cc)
   passes_last last (x ∷ xs) h at = passes_last_of last x xs h (sym (last_at x xs) ∙ sym at)
 
-  -- the last element that passes stands before the first that does not
+  -- the last element that passes comes before the first that does not
   pub greatest_none : (xs : List X) → IsCut p xs → position_or_len (λ y. not (p y)) xs ≡ 0 → find p (reverse xs) ≡ None
   greatest_none [] h e = refl
   greatest_none (x ∷ xs) h e =

@@ -1,20 +1,20 @@
 ghost use Rattle.std.specs.Prelude.{◌≡◌, ◌+◌, ◌≤◌, ◌++◌, false, insert, length, not, slice_get, true, IfOk, OnOk, OnErr};
 ghost use Rattle.std.specs.Option.{option_copied};
 ghost use Rattle.s38_base.specs.declared.words.Relation.TheVariants.{Eq};
-ghost use Rattle.s38_indexes.specs.Entries.{IsRising, asks_for_greatest, fits, greatest, is_held, least, place, with_entry, without_entry};
-ghost use Rattle.s38_indexes.specs.Leaves.{front, has, is_equal_to, least_behind, passes};
+ghost use Rattle.s38_indexes.specs.Entries.{IsRising, asks_for_greatest, greatest, has_entry, index_with_entry, is_in_relation, least, place_of_key, without_entry};
+ghost use Rattle.s38_indexes.specs.Leaves.{front, has, is_equal_to, least_past, passes};
 
 use s38_base::{Bytes, NoMemory, Relation};
 
 fn fits(entry: &Bytes, relation: Relation, key: &[u8]) -> bool
-    ensures { result ≡ fits relation key.now entry.now }
+    ensures { result ≡ is_in_relation relation key.now entry.now }
 {
     relation.holds(entry.as_slice().cmp(key))
 }
 
 /// Whether an entry equals a key.
 pub fn equals(entry: &Bytes, key: &[u8]) -> bool
-    ensures { result ≡ fits Eq key.now entry.now }
+    ensures { result ≡ is_in_relation Eq key.now entry.now }
 {
     fits(entry, Relation::Eq, key)
 }
@@ -26,7 +26,7 @@ fn entry_at(entries: &[Bytes], at: usize) -> Option<&Bytes>
     entries.get(at)
 }
 
-/// How many entries stand in LO, NH or LAST to a key. All of these stand at the front.
+/// How many entries are in relation LO, NH or LAST to a key. All of these are at the front.
 fn front(entries: &[Bytes], relation: Relation, key: &[u8]) -> usize
     requires rising { IsRising entries.now }
     requires downward { asks_for_greatest relation ≡ true }
@@ -36,7 +36,7 @@ fn front(entries: &[Bytes], relation: Relation, key: &[u8]) -> usize
     entries.partition_point(|entry| fits(entry, relation, key))
 }
 
-/// Whether an entry stands in LO, NH or LAST to a key, as the first of them tells.
+/// Whether an entry is in relation LO, NH or LAST to a key, as the first of them tells.
 pub fn has(entries: &[Bytes], relation: Relation, key: &[u8]) -> bool
     requires rising { IsRising entries.now }
     requires downward { asks_for_greatest relation ≡ true }
@@ -48,7 +48,7 @@ pub fn has(entries: &[Bytes], relation: Relation, key: &[u8]) -> bool
     }
 }
 
-/// Whether an entry does not stand in LO, NH or LAST to a key, as the last of them tells.
+/// Whether an entry is not in relation LO, NH or LAST to a key, as the last of them tells.
 pub fn passes(entries: &[Bytes], relation: Relation, key: &[u8]) -> bool
     requires rising { IsRising entries.now }
     requires downward { asks_for_greatest relation ≡ true }
@@ -60,16 +60,16 @@ pub fn passes(entries: &[Bytes], relation: Relation, key: &[u8]) -> bool
     }
 }
 
-/// The least entry that does not stand in LO, NH or LAST to a key.
-pub fn least_behind<'a>(entries: &'a [Bytes], relation: Relation, key: &[u8]) -> Option<&'a Bytes>
+/// The least entry that is not in relation LO, NH or LAST to a key.
+pub fn least_past<'a>(entries: &'a [Bytes], relation: Relation, key: &[u8]) -> Option<&'a Bytes>
     requires rising { IsRising entries.now }
     requires downward { asks_for_greatest relation ≡ true }
-    ensures { option_copied result ≡ least_behind relation key.now entries.now }
+    ensures { option_copied result ≡ least_past relation key.now entries.now }
 {
     entry_at(entries, front(entries, relation, key))
 }
 
-/// The greatest entry that stands in LO, NH or LAST to a key.
+/// The greatest entry that is in relation LO, NH or LAST to a key.
 pub fn greatest<'a>(entries: &'a [Bytes], relation: Relation, key: &[u8]) -> Option<&'a Bytes>
     requires rising { IsRising entries.now }
     requires downward { asks_for_greatest relation ≡ true }
@@ -82,17 +82,17 @@ pub fn greatest<'a>(entries: &'a [Bytes], relation: Relation, key: &[u8]) -> Opt
     entry_at(entries, front - 1)
 }
 
-/// The least entry that stands in a relation to a key, sought from the first on.
+/// The least entry that is in a relation to a key, sought from the first on.
 pub fn least<'a>(entries: &'a [Bytes], relation: Relation, key: &[u8]) -> Option<&'a Bytes>
     ensures { option_copied result ≡ least relation key.now entries.now }
 {
     entries.iter().find(|entry| fits(entry, relation, key))
 }
 
-/// Where the first entry stands that does not come before a key, or where an entry behind all would.
+/// The place of the first entry that does not come before a key, or how many entries there are.
 fn place(entries: &[Bytes], key: &[u8]) -> usize
     requires { IsRising entries.now }
-    ensures value { result ≡ place key.now entries.now }
+    ensures value { result ≡ place_of_key key.now entries.now }
     ensures bound { result ≤ length entries.now }
 {
     front(entries, Relation::Lo, key)
@@ -113,7 +113,7 @@ fn insert_at(entries: &mut Vec<Bytes>, at: usize, entry: Bytes) -> Result<(), No
 /// Adds an entry in its place; an error leaves the entries as they were.
 pub fn add(entries: &mut Vec<Bytes>, entry: Bytes) -> Result<(), NoMemory>
     requires { IsRising entries.old.items }
-    ensures ok { OnOk result (entries.new.items ≡ with_entry entry entries.old.items) }
+    ensures ok { OnOk result (entries.new.items ≡ index_with_entry entry entries.old.items) }
     ensures err { OnErr result (entries.new.items ≡ entries.old.items) }
 {
     let at = place(entries, entry.as_slice());
@@ -133,7 +133,7 @@ fn equals_at(entries: &[Bytes], at: usize, key: &[u8]) -> bool
 /// Whether there is an entry.
 pub fn holds(entries: &[Bytes], key: &[u8]) -> bool
     requires { IsRising entries.now }
-    ensures { result ≡ is_held key.now entries.now }
+    ensures { result ≡ has_entry key.now entries.now }
 {
     equals_at(entries, place(entries, key), key)
 }
@@ -141,7 +141,7 @@ pub fn holds(entries: &[Bytes], key: &[u8]) -> bool
 /// Takes an entry out, and tells whether it was there.
 pub fn remove(entries: &mut Vec<Bytes>, key: &[u8]) -> bool
     requires { IsRising entries.old.items }
-    ensures held { result ≡ is_held key.now entries.old.items }
+    ensures held { result ≡ has_entry key.now entries.old.items }
     ensures rest { entries.new.items ≡ without_entry key.now entries.old.items }
 {
     let at = place(entries, key);

@@ -1,13 +1,13 @@
 ghost use Rattle.std.specs.Prelude.{◌≡◌, ◌≤◌, [], None, Some, length, IfErr, IfOk, OnOk, OnErr};
 ghost use Rattle.std.specs.Option.{option_copied, unwrap_or};
-ghost use Rattle.s38_indexes.specs.Entries.{AreShort, IsRising, found, image_size, largest, with_entry, without_entry};
+ghost use Rattle.s38_indexes.specs.Entries.{AreShort, IsRising, entry_found, index_image_size, index_with_entry, largest, without_entry};
 ghost use Rattle.s38_indexes.specs.Leaves.{NoneEmpty, first_reaching, joined};
 ghost use Rattle.s38_indexes.specs.Refusals.{insert_refusal, remove_refusal};
 
 use crate::fault::IndexFault;
 use crate::leaf::Leaf;
-use crate::leaves;
 use crate::walk::Entries;
+use crate::{leaves, lookup};
 use s38_base::{Bytes, Relation};
 use std::alloc::Global;
 use std::marker::Model;
@@ -41,7 +41,7 @@ impl Model for Index {
 fn leaf_for(leaves: &[Leaf], longest: u8, size: u32, entry: &[u8]) -> Result<usize, IndexFault>
     requires rising { IsRising (joined leaves.now) }
     requires none_empty { NoneEmpty leaves.now }
-    requires sized { size ≡ image_size (joined leaves.now) }
+    requires sized { size ≡ index_image_size (joined leaves.now) }
     requires within { size ≤ largest }
     ensures leaf { IfOk result (λ first. first ≡ first_reaching entry.now leaves.now) }
     ensures ok { OnOk result (insert_refusal entry.now (record { longest = longest; entries = joined leaves.now }) ≡ None) }
@@ -51,8 +51,8 @@ fn leaf_for(leaves: &[Leaf], longest: u8, size: u32, entry: &[u8]) -> Result<usi
     if entry.len() > longest as usize {
         return Err(IndexFault::BadLength);
     }
-    let first = leaves::first_reaching(leaves, entry);
-    if leaves::holds_at(leaves, first, entry) {
+    let first = lookup::first_reaching(leaves, entry);
+    if lookup::holds_at(leaves, first, entry) {
         return Err(IndexFault::Present);
     }
     if size + 1 + entry.len() as u32 > LARGEST {
@@ -91,7 +91,7 @@ impl Index {
 
     /// How many bytes the image of the index has.
     pub fn image_len(&self) -> u32
-        ensures size { result ≡ image_size self.now.entries }
+        ensures size { result ≡ index_image_size self.now.entries }
         ensures bound { result ≤ largest }
     {
         self.size
@@ -101,10 +101,10 @@ impl Index {
     /// above it (or equal), with LO and NH the greatest below it (or equal), with NE the least other
     /// entry, with ANY and FIRST the least of all, with LAST the greatest. None exactly where none fits.
     pub fn find(&self, relation: Relation, key: &[u8]) -> Option<&[u8]>
-        ensures found { option_copied result ≡ found relation key.now self.now.entries }
+        ensures found { option_copied result ≡ entry_found relation key.now self.now.entries }
         ensures rising { IsRising self.now.entries }
     {
-        match leaves::found(self.leaves.as_slice(), relation, key) {
+        match lookup::found(self.leaves.as_slice(), relation, key) {
             Some(entry) => Some(entry.as_slice()),
             None => None,
         }
@@ -134,7 +134,7 @@ impl Index {
         ensures ok { OnOk result (remove_refusal entry.now self.now ≡ None) }
         ensures fault { IfErr result (λ fault. remove_refusal entry.now self.now ≡ Some fault) }
     {
-        if leaves::holds(self.leaves.as_slice(), entry) {
+        if lookup::holds(self.leaves.as_slice(), entry) {
             Ok(())
         } else {
             Err(IndexFault::Absent)
@@ -146,7 +146,7 @@ impl Index {
     pub fn insert(&mut self, entry: &[u8]) -> Result<(), IndexFault>
         ensures taken { OnOk result (insert_refusal entry.now self.old ≡ None) }
         ensures ok { OnOk result (self.new
-            ≡ record self.old { entries = with_entry entry.now self.old.entries }) }
+            ≡ record self.old { entries = index_with_entry entry.now self.old.entries }) }
         ensures fault { IfErr result (λ fault. fault
             ≡ unwrap_or (insert_refusal entry.now self.old) IndexFault.NoMemory) }
         ensures err { OnErr result (self.new ≡ self.old) }

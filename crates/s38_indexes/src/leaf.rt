@@ -1,7 +1,7 @@
 ghost use Rattle.std.specs.Prelude.{◌≡◌, ◌<◌, ◌≤◌, ◌↔◌, ◌++◌, [], ◌∷◌, false, length, nat_le, true, IfOk, IsTrue, OnOk, OnErr};
 ghost use Rattle.std.specs.Option.{option_copied};
-ghost use Rattle.s38_indexes.specs.Entries.{asks_for_greatest, greatest, is_held, least, with_entry, without_entry};
-ghost use Rattle.s38_indexes.specs.Leaves.{has, least_behind, most, passes, reaches};
+ghost use Rattle.s38_indexes.specs.Entries.{asks_for_greatest, greatest, has_entry, index_with_entry, least, without_entry};
+ghost use Rattle.s38_indexes.specs.Leaves.{has, least_past, most, passes, reaches};
 
 use crate::entries;
 use s38_base::{Bytes, NoMemory, Relation};
@@ -19,10 +19,10 @@ pub struct Leaf {
 
 impl Model for Leaf {
     ghost use Rattle.std.specs.Prelude.{List};
-    ghost use Rattle.s38_indexes.specs.Entries.{Entry};
+    ghost use Rattle.s38_indexes.specs.Entries.{IndexEntry};
     ghost use Rattle.s38_indexes.specs.Leaves.{IsLeaf};
 
-    ghost Value = { List Entry };
+    ghost Value = { List IndexEntry };
 
     ghost view = { λ l. l.entries.items };
 
@@ -68,7 +68,7 @@ impl Leaf {
         self.entries.as_slice()
     }
 
-    /// Whether it has an entry that stands in LO, NH or LAST to a key.
+    /// Whether it has an entry that is in relation LO, NH or LAST to a key.
     pub fn has(&self, relation: Relation, key: &[u8]) -> bool
         requires { asks_for_greatest relation ≡ true }
         ensures { result ≡ has relation key.now self.now }
@@ -76,7 +76,7 @@ impl Leaf {
         entries::has(self.entries.as_slice(), relation, key)
     }
 
-    /// Whether it has an entry that does not stand in LO, NH or LAST to a key.
+    /// Whether it has an entry that is not in relation LO, NH or LAST to a key.
     pub fn passes(&self, relation: Relation, key: &[u8]) -> bool
         requires { asks_for_greatest relation ≡ true }
         ensures { result ≡ passes relation key.now self.now }
@@ -84,15 +84,15 @@ impl Leaf {
         entries::passes(self.entries.as_slice(), relation, key)
     }
 
-    /// The least entry that does not stand in LO, NH or LAST to a key.
-    pub fn least_behind(&self, relation: Relation, key: &[u8]) -> Option<&Bytes>
+    /// The least entry that is not in relation LO, NH or LAST to a key.
+    pub fn least_past(&self, relation: Relation, key: &[u8]) -> Option<&Bytes>
         requires { asks_for_greatest relation ≡ true }
-        ensures { option_copied result ≡ least_behind relation key.now self.now }
+        ensures { option_copied result ≡ least_past relation key.now self.now }
     {
-        entries::least_behind(self.entries.as_slice(), relation, key)
+        entries::least_past(self.entries.as_slice(), relation, key)
     }
 
-    /// The greatest entry that stands in LO, NH or LAST to a key.
+    /// The greatest entry that is in relation LO, NH or LAST to a key.
     pub fn greatest(&self, relation: Relation, key: &[u8]) -> Option<&Bytes>
         requires { asks_for_greatest relation ≡ true }
         ensures { option_copied result ≡ greatest relation key.now self.now }
@@ -100,7 +100,7 @@ impl Leaf {
         entries::greatest(self.entries.as_slice(), relation, key)
     }
 
-    /// The least entry that stands in a relation to a key, sought from the first on.
+    /// The least entry that is in a relation to a key, sought from the first on.
     pub fn least(&self, relation: Relation, key: &[u8]) -> Option<&Bytes>
         ensures { option_copied result ≡ least relation key.now self.now }
     {
@@ -116,16 +116,16 @@ impl Leaf {
 
     /// Whether it has an entry.
     pub fn holds(&self, key: &[u8]) -> bool
-        ensures { result ≡ is_held key.now self.now }
+        ensures { result ≡ has_entry key.now self.now }
     {
         entries::holds(self.entries.as_slice(), key)
     }
 
     /// Adds an entry in its place; an error leaves the leaf as it was.
     pub fn add(&mut self, entry: Bytes) -> Result<(), NoMemory>
-        requires new { is_held entry self.old ≡ false }
+        requires new { has_entry entry self.old ≡ false }
         requires room { length self.old < most }
-        ensures ok { OnOk result (self.new ≡ with_entry entry self.old) }
+        ensures ok { OnOk result (self.new ≡ index_with_entry entry self.old) }
         ensures err { OnErr result (self.new ≡ self.old) }
     {
         entries::add(&mut self.entries, entry)
@@ -133,7 +133,7 @@ impl Leaf {
 
     /// Takes an entry out, and tells whether it was there.
     pub fn remove(&mut self, key: &[u8]) -> bool
-        ensures held { result ≡ is_held key.now self.old }
+        ensures held { result ≡ has_entry key.now self.old }
         ensures rest { self.new ≡ without_entry key.now self.old }
     {
         entries::remove(&mut self.entries, key)

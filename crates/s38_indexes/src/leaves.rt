@@ -1,140 +1,17 @@
 ghost use Rattle.std.specs.Prelude.{◌≡◌, ◌+◌, ◌<◌, ◌≤◌, ◌↔◌, ◌++◌, [], ◌∷◌, false, insert, length, nat_le, if◌then◌else◌, remove, slice_index_or, slice_set, true, IfOk, IsTrue, OnOk, OnErr};
-ghost use Rattle.std.specs.Option.{option_copied};
 ghost use Rattle.std.specs.Vec.{vec_capacity, vec_len};
-ghost use Rattle.std.specs.List.{AllWithin, position_or_len};
-ghost use Rattle.s38_base.specs.declared.words.Relation.TheVariants.{Eq};
-ghost use Rattle.s38_indexes.specs.Entries.{Entry, IsRising, asks_for_greatest, found, greatest, is_held, least, with_entry, without_entry};
-ghost use Rattle.s38_indexes.specs.Leaves.{IsPlaceFor, IsSplit, NoneEmpty, first_reaching, has, joined, least_behind, most, passes, reaches};
+ghost use Rattle.s38_indexes.specs.Entries.{IndexEntry, IsRising, has_entry, index_with_entry, without_entry};
+ghost use Rattle.s38_indexes.specs.Leaves.{IsPlaceFor, IsSplit, NoneEmpty, first_reaching, joined, most, reaches};
 
-use crate::entries;
 use crate::leaf::Leaf;
-use s38_base::{Bytes, NoMemory, Relation};
+use crate::lookup::first_reaching;
+use s38_base::{Bytes, NoMemory};
 use std::alloc::Global;
 
-/// The first leaf that has an entry that does not stand in LO, NH or LAST to a key, or how many leaves there are.
-fn first_passing(leaves: &[Leaf], relation: Relation, key: &[u8]) -> usize
-    requires rising { IsRising (joined leaves.now) }
-    requires none_empty { NoneEmpty leaves.now }
-    requires downward { asks_for_greatest relation ≡ true }
-    ensures value { result ≡ position_or_len (passes relation key.now) leaves.now }
-    ensures bound { result ≤ length leaves.now }
-{
-    leaves.partition_point(|leaf| !leaf.passes(relation, key))
-}
-
-/// How many leaves have an entry that stands in LO, NH or LAST to a key. All of these stand at the front.
-fn count_having(leaves: &[Leaf], relation: Relation, key: &[u8]) -> usize
-    requires rising { IsRising (joined leaves.now) }
-    requires none_empty { NoneEmpty leaves.now }
-    requires downward { asks_for_greatest relation ≡ true }
-    ensures first { AllWithin (λ leaf. has relation key.now leaf ≡ true) leaves.now 0 result }
-    ensures rest { AllWithin (λ leaf. has relation key.now leaf ≡ false) leaves.now result (length leaves.now) }
-    ensures bound { result ≤ length leaves.now }
-{
-    leaves.partition_point(|leaf| leaf.has(relation, key))
-}
-
-/// The least entry that does not stand in LO, NH or LAST to a key.
-fn least_behind<'a>(leaves: &'a [Leaf], relation: Relation, key: &[u8]) -> Option<&'a Bytes>
-    requires rising { IsRising (joined leaves.now) }
-    requires none_empty { NoneEmpty leaves.now }
-    requires downward { asks_for_greatest relation ≡ true }
-    ensures { option_copied result ≡ least_behind relation key.now (joined leaves.now) }
-{
-    let at = first_passing(leaves, relation, key);
-    if at == leaves.len() {
-        return None;
-    }
-    leaves[at].least_behind(relation, key)
-}
-
-/// The greatest entry that stands in LO, NH or LAST to a key.
-fn greatest<'a>(leaves: &'a [Leaf], relation: Relation, key: &[u8]) -> Option<&'a Bytes>
-    requires rising { IsRising (joined leaves.now) }
-    requires none_empty { NoneEmpty leaves.now }
-    requires downward { asks_for_greatest relation ≡ true }
-    ensures { option_copied result ≡ greatest relation key.now (joined leaves.now) }
-{
-    let count = count_having(leaves, relation, key);
-    if count == 0 {
-        return None;
-    }
-    leaves[count - 1].greatest(relation, key)
-}
-
-/// The least entry that stands in a relation to a key, sought from the first on.
-fn least<'a>(leaves: &'a [Leaf], relation: Relation, key: &[u8]) -> Option<&'a Bytes>
-    ensures { option_copied result ≡ least relation key.now (joined leaves.now) }
-{
-    for leaf in leaves {
-        if let Some(entry) = leaf.least(relation, key) {
-            return Some(entry);
-        }
-    }
-    None
-}
-
-/// The entry that equals a key.
-fn equal<'a>(leaves: &'a [Leaf], key: &[u8]) -> Option<&'a Bytes>
-    requires rising { IsRising (joined leaves.now) }
-    requires none_empty { NoneEmpty leaves.now }
-    ensures { option_copied result ≡ least Eq key.now (joined leaves.now) }
-{
-    let entry = least_behind(leaves, Relation::Lo, key)?;
-    if entries::equals(entry, key) {
-        Some(entry)
-    } else {
-        None
-    }
-}
-
-/// The entry that a search finds.
-pub fn found<'a>(leaves: &'a [Leaf], relation: Relation, key: &[u8]) -> Option<&'a Bytes>
-    requires rising { IsRising (joined leaves.now) }
-    requires none_empty { NoneEmpty leaves.now }
-    ensures { option_copied result ≡ found relation key.now (joined leaves.now) }
-{
-    match relation {
-        Relation::Eq => equal(leaves, key),
-        Relation::Nl => least_behind(leaves, Relation::Lo, key),
-        Relation::Hi => least_behind(leaves, Relation::Nh, key),
-        Relation::Lo | Relation::Nh | Relation::Last => greatest(leaves, relation, key),
-        Relation::Ne | Relation::Any | Relation::First => least(leaves, relation, key),
-    }
-}
-
-/// Whether an entry is in a leaf.
-pub fn holds(leaves: &[Leaf], key: &[u8]) -> bool
-    requires rising { IsRising (joined leaves.now) }
-    requires none_empty { NoneEmpty leaves.now }
-    ensures { result ≡ is_held key.now (joined leaves.now) }
-{
-    equal(leaves, key).is_some()
-}
-
-/// The first leaf that has an entry that does not come before a key, or how many leaves there are.
-pub fn first_reaching(leaves: &[Leaf], key: &[u8]) -> usize
-    requires rising { IsRising (joined leaves.now) }
-    requires none_empty { NoneEmpty leaves.now }
-    ensures value { result ≡ first_reaching key.now leaves.now }
-    ensures bound { result ≤ length leaves.now }
-{
-    first_passing(leaves, Relation::Lo, key)
-}
-
-/// Whether an entry is there: the first leaf that has an entry that does not come before it would have it.
-pub fn holds_at(leaves: &[Leaf], at: usize, key: &[u8]) -> bool
-    requires rising { IsRising (joined leaves.now) }
-    requires first { at ≡ first_reaching key.now leaves.now }
-    ensures { result ≡ is_held key.now (joined leaves.now) }
-{
-    at < leaves.len() && leaves[at].holds(key)
-}
-
-/// The leaf into which an entry goes: the first that has an entry behind it, else the last.
+/// The leaf into which an entry goes: the first that has an entry after it, else the last.
 fn place_for(leaves: &[Leaf], first: usize) -> usize
     requires { 0 < length leaves.now }
-    ensures { (key : Entry) → first ≡ first_reaching key leaves.now → IsPlaceFor key leaves.now result }
+    ensures { (key : IndexEntry) → first ≡ first_reaching key leaves.now → IsPlaceFor key leaves.now result }
 {
     if first < leaves.len() {
         first
@@ -146,10 +23,10 @@ fn place_for(leaves: &[Leaf], first: usize) -> usize
 /// Adds an entry to a leaf; an error leaves all as they were.
 fn add_at(leaves: &mut Vec<Leaf>, at: usize, entry: Bytes) -> Result<(), NoMemory>
     requires inside { at < length leaves.old.items }
-    requires new { is_held entry (slice_index_or leaves.old.items at []) ≡ false }
+    requires new { has_entry entry (slice_index_or leaves.old.items at []) ≡ false }
     requires room { length (slice_index_or leaves.old.items at []) < most }
     ensures ok { OnOk result (leaves.new.items
-        ≡ slice_set leaves.old.items at (with_entry entry (slice_index_or leaves.old.items at []))) }
+        ≡ slice_set leaves.old.items at (index_with_entry entry (slice_index_or leaves.old.items at []))) }
     ensures err { OnErr result (leaves.new.items ≡ leaves.old.items) }
 {
     let leaf = &mut leaves[at];
@@ -159,7 +36,7 @@ fn add_at(leaves: &mut Vec<Leaf>, at: usize, entry: Bytes) -> Result<(), NoMemor
 /// Takes an entry out of a leaf, and tells whether it was there.
 fn remove_at(leaves: &mut Vec<Leaf>, at: usize, key: &[u8]) -> bool
     requires { at < length leaves.old.items }
-    ensures held { result ≡ is_held key.now (slice_index_or leaves.old.items at []) }
+    ensures held { result ≡ has_entry key.now (slice_index_or leaves.old.items at []) }
     ensures rest { leaves.new.items
         ≡ slice_set leaves.old.items at (without_entry key.now (slice_index_or leaves.old.items at [])) }
 {
@@ -185,8 +62,8 @@ fn halve(leaves: &mut Vec<Leaf>, at: usize) -> Result<Leaf, NoMemory>
     leaf.split()
 }
 
-/// Puts a leaf behind another where there is room for it.
-fn put_behind(leaves: &mut Vec<Leaf>, at: usize, leaf: Leaf)
+/// Puts a leaf after another where there is room for it.
+fn put_after(leaves: &mut Vec<Leaf>, at: usize, leaf: Leaf)
     requires inside { at < length leaves.old.items }
     requires room { vec_len leaves.old < vec_capacity leaves.old }
     ensures { leaves.new.items ≡ insert leaves.old.items (at + 1) leaf }
@@ -206,7 +83,7 @@ fn split_at(leaves: &mut Vec<Leaf>, at: usize) -> Result<(), NoMemory>
     }
     match halve(leaves, at) {
         Ok(upper) => {
-            put_behind(leaves, at, upper);
+            put_after(leaves, at, upper);
             Ok(())
         }
         Err(e) => Err(e),
@@ -232,10 +109,10 @@ fn is_full_at(leaves: &[Leaf], at: usize) -> bool
 /// Adds an entry to a leaf that has room; an error leaves the entries as they were.
 fn add_with_room(leaves: &mut Vec<Leaf>, at: usize, entry: Bytes) -> Result<(), NoMemory>
     requires place { IsPlaceFor entry leaves.old.items at }
-    requires new { is_held entry (joined leaves.old.items) ≡ false }
+    requires new { has_entry entry (joined leaves.old.items) ≡ false }
     requires room { length (slice_index_or leaves.old.items at []) < most }
     requires none_empty { NoneEmpty leaves.old.items }
-    ensures ok { OnOk result (joined leaves.new.items ≡ with_entry entry (joined leaves.old.items)) }
+    ensures ok { OnOk result (joined leaves.new.items ≡ index_with_entry entry (joined leaves.old.items)) }
     ensures err { OnErr result (joined leaves.new.items ≡ joined leaves.old.items) }
     ensures none_empty { NoneEmpty leaves.new.items }
 {
@@ -281,9 +158,9 @@ pub fn add(
     entry: Bytes,
 ) -> Result<(), NoMemory>
     requires first { first ≡ first_reaching entry leaves.old.items }
-    requires new { is_held entry (joined leaves.old.items) ≡ false }
+    requires new { has_entry entry (joined leaves.old.items) ≡ false }
     requires none_empty { NoneEmpty leaves.old.items }
-    ensures ok { OnOk result (joined leaves.new.items ≡ with_entry entry (joined leaves.old.items)) }
+    ensures ok { OnOk result (joined leaves.new.items ≡ index_with_entry entry (joined leaves.old.items)) }
     ensures err { OnErr result (joined leaves.new.items ≡ joined leaves.old.items) }
     ensures none_empty { NoneEmpty leaves.new.items }
 {
@@ -319,7 +196,7 @@ fn drop_empty(leaves: &mut Vec<Leaf>, at: usize)
 pub fn remove(leaves: &mut Vec<Leaf>, key: &[u8]) -> bool
     requires rising { IsRising (joined leaves.old.items) }
     requires none_empty { NoneEmpty leaves.old.items }
-    ensures held { result ≡ is_held key.now (joined leaves.old.items) }
+    ensures held { result ≡ has_entry key.now (joined leaves.old.items) }
     ensures rest { joined leaves.new.items ≡ without_entry key.now (joined leaves.old.items) }
     ensures none_empty { NoneEmpty leaves.new.items }
 {

@@ -6,6 +6,7 @@ mod fault;
 mod index;
 mod leaf;
 mod leaves;
+mod lookup;
 mod walk;
 
 pub use fault::IndexFault;

@@ -15,17 +15,17 @@ pub struct Entries<'a> {
 
 impl<'a> Model for Entries<'a> {
     ghost use Rattle.std.specs.Prelude.{◌++◌, List};
-    ghost use Rattle.s38_indexes.specs.Entries.{Entry};
+    ghost use Rattle.s38_indexes.specs.Entries.{IndexEntry};
     ghost use Rattle.s38_indexes.specs.Leaves.{NoneEmpty, joined};
 
-    ghost Value = { List Entry };
+    ghost Value = { List IndexEntry };
 
     ghost view = { λ e. e.leaf.now ++ joined e.others.now };
 
     ghost invariant = { λ e. NoneEmpty e.others.now };
 }
 
-/// The first entry of leaves, and those behind it.
+/// The first entry of leaves, and those after it.
 fn first_in(leaves: &[Leaf]) -> Option<(&[u8], Entries<'_>)>
     requires { NoneEmpty leaves.now }
     ensures first { IfSome result (λ x. joined leaves.now ≡ x.0.now ∷ x.1) }

@@ -5,7 +5,7 @@ use Rattle.std.proofs.lemmas.List.Elements.{filter-append}
 use Rattle.std.specs.Prelude.{filter, nat_lt}
 use Rattle.std.specs.List.{range_with_len}
 use Rattle.s38_rules.specs.declared.process.ProcessEntry.{ProcessEntry}
-use Rattle.s38_rules.specs.State.{is_early, runs_before}
+use Rattle.s38_rules.specs.state.State.{is_early, runs_before}
 
 -- ---- the least stage
 

@@ -1,14 +1,14 @@
 ghost use Rattle.std.specs.Prelude.{◌≡◌, ◌≤◌, [], None, IfOk};
 ghost use Rattle.s38_base.specs.Limits.{furthest};
-ghost use Rattle.s38_rules.specs.Kept.{CanBeKept};
+ghost use Rattle.s38_rules.specs.state.Kept.{CanBeKept};
 
 use s38_base::NoMemory;
 use s38_code::Checked;
 use s38_commits::Units;
-use s38_extents::Room;
 use s38_locks::LockTable;
 use s38_profiles::{CountedRows, Profiles};
 use s38_rules::{ProcessEntry, Table, TableRows};
+use s38_space_map::Room;
 use std::alloc::Global;
 use std::marker::Model;
 
@@ -34,9 +34,9 @@ pub struct Core<T: Table, P: CountedRows> {
 impl<T: Table, P: CountedRows> Model for Core<T, P> {
     ghost use Rattle.std.specs.Prelude.{◌≤◌};
     ghost use Rattle.s38_base.specs.Limits.{furthest};
-    ghost use Rattle.s38_extents.specs.Keeping.{room_in};
-    ghost use Rattle.s38_rules.specs.Kept.{Mirrors};
-    ghost use Rattle.s38_rules.specs.State.{State};
+    ghost use Rattle.s38_space_map.specs.Keeping.{room_in};
+    ghost use Rattle.s38_rules.specs.state.Kept.{Mirrors};
+    ghost use Rattle.s38_rules.specs.state.State.{State};
 
     ghost Value = { State };
 

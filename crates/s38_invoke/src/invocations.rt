@@ -1,8 +1,8 @@
-//! Other frames of a process: a program is called, or stands in place of the last.
+//! Other frames of a process: a program is called, or takes the place of the last.
 ghost use Rattle.std.specs.Prelude.{◌≡◌, ◌<◌, OnErr, OnOk, Some, length, slice_get, slice_set};
 ghost use Rattle.s38_base.specs.declared.id.ObjNum.{ObjNum};
 ghost use Rattle.s38_rules.specs.declared.process.ProcessEntry.{ProcessEntry};
-ghost use Rattle.s38_rules.specs.Invocations.{frames_used, most_frames, pushed, replaced, restack, stack_in, stack_of, with_stack};
+ghost use Rattle.s38_rules.specs.state.Invocations.{frames_used, most_frames, pushed, replaced, restack, stack_in, stack_of, with_stack};
 
 use crate::core_state::Core;
 use s38_base::{NoMemory, ObjNum};

@@ -1,9 +1,9 @@
 //! What a world keeps of users, read without a search through the objects.
 ghost use Rattle.std.specs.Prelude.{◌≡◌};
-ghost use Rattle.s38_rules.specs.Authority.{counted, row_on};
-ghost use Rattle.s38_rules.specs.Creation.{limit_in};
-ghost use Rattle.s38_rules.specs.Headers.{special_in};
-ghost use Rattle.s38_rules.specs.Held.{charge_in, object};
+ghost use Rattle.s38_rules.specs.ask.Authority.{rights_that_count, row_on};
+ghost use Rattle.s38_rules.specs.families.Creation.{limit_in};
+ghost use Rattle.s38_rules.specs.state.Headers.{special_in};
+ghost use Rattle.s38_rules.specs.state.Held.{charge_in, object};
 
 use crate::core_state::Core;
 use s38_base::{ObjNum, Rights, Special, UserNum};
@@ -33,7 +33,7 @@ impl<T: Table, P: UserMaps> Core<T, P> {
 
     /// How many pages a user owns, 0 of one that is not there.
     pub fn charge(&self, user: UserNum) -> u64
-        ensures { result ≡ counted (object self.now.held user.0) (charge_in self.now.held.objects user.0) }
+        ensures { result ≡ rights_that_count (object self.now.held user.0) (charge_in self.now.held.objects user.0) }
     {
         self.profiles.charge(user)
     }

@@ -1,9 +1,9 @@
 //! The processes of a world: how far each has come, and which are ready.
 ghost use Rattle.std.specs.Prelude.{◌≡◌, ◌≤◌, ◌<◌, ◌+◌, ◌-◌, ◌^◌, ◌++◌, ◌∷◌, [], ℕ, OnOk, Some, if◌then◌else◌, length, nat_lt, slice_get};
 ghost use Rattle.std.specs.Option.{option_copied};
-ghost use Rattle.s38_rules.specs.Invocations.{most_frames, stack_in, stack_of};
-ghost use Rattle.s38_rules.specs.State.{is_early, is_last_ready, others_stand, process_entry, ready, ready_in, ready_list, started, started_in, waits};
-ghost use Rattle.s38_rules.specs.Users.{contexts_in, contexts_of, user_in, user_of};
+ghost use Rattle.s38_rules.specs.state.Invocations.{most_frames, stack_in, stack_of};
+ghost use Rattle.s38_rules.specs.state.State.{is_early, is_last_ready, no_other_ready, process_entry, ready, ready_in, ready_list, started, started_in, waits};
+ghost use Rattle.s38_rules.specs.ask.Users.{contexts_in, contexts_of, user_in, user_of};
 
 use crate::core_state::Core;
 use s38_base::{NoMemory, ObjNum, UserNum};
@@ -154,7 +154,7 @@ impl<T: Table, P: UserMaps> Core<T, P> {
     pub fn is_last_ready(&self, process: u32) -> bool
         ensures { result ≡ is_last_ready self.now process }
     {
-        others_stand(self, process, 1, self.processes.as_slice())
+        no_other_ready(self, process, 1, self.processes.as_slice())
     }
 
     /// Whether a process is ready, by the current stage.
@@ -184,14 +184,14 @@ impl<T: Table, P: UserMaps> Core<T, P> {
 }
 
 /// Whether of the processes from a number on no other is ready.
-fn others_stand<T: Table, P: UserMaps>(
+fn no_other_ready<T: Table, P: UserMaps>(
     world: &Core<T, P>,
     process: u32,
     number: u64,
     entries: &[ProcessEntry],
 ) -> bool
     requires { number + length entries.now < 2 ^ 64 }
-    ensures { result ≡ others_stand world.now process number entries.now }
+    ensures { result ≡ no_other_ready world.now process number entries.now }
 {
     match entries {
         [] => true,
@@ -199,7 +199,7 @@ fn others_stand<T: Table, P: UserMaps>(
             if number != u64::from(process) && world.is_ready(number, entry) {
                 return false;
             }
-            others_stand(world, process, number + 1, more)
+            no_other_ready(world, process, number + 1, more)
         }
     }
 }

@@ -3,10 +3,10 @@ ghost use Rattle.std.specs.Prelude.{◌≡◌, ◌+◌, ◌<◌, ◌^◌, true, 
 ghost use Rattle.std.specs.Option.{option_map};
 ghost use Rattle.s38_base.specs.Limits.{last_operand, machine_context};
 ghost use Rattle.s38_rules.specs.declared.process.ProcessEntry.{ProcessEntry};
-ghost use Rattle.s38_rules.specs.Effect.{ended_at, in_machine, numbers_of, start_at, started_as};
-ghost use Rattle.s38_rules.specs.Held.{number_found};
-ghost use Rattle.s38_rules.specs.State.{process_entry};
-ghost use Rattle.s38_rules.specs.Verdict.{absent, absent_context, context_id, profile_id, start_failure};
+ghost use Rattle.s38_rules.specs.step.Effect.{ended_at, in_machine, numbers_of, start_at, started_as};
+ghost use Rattle.s38_rules.specs.state.Held.{number_found};
+ghost use Rattle.s38_rules.specs.state.State.{process_entry};
+ghost use Rattle.s38_rules.specs.step.Verdict.{absent, absent_context, context_id, profile_id, start_failure};
 
 use crate::core_state::Core;
 use s38_base::exceptions::OBJECT_NOT_FOUND;
@@ -72,7 +72,7 @@ fn absent_context<T: Table>(objects: &T, names: &[Name], operand: u64) -> Option
 }
 
 /// A start finds the profile of the job's user, and the contexts of its list; else the first that is absent.
-#[tactic(auto, unfolding(s38_rules::specs::Verdict::start_failure))]
+#[tactic(auto, unfolding(s38_rules::specs::step::Verdict::start_failure))]
 pub fn start_failure<T: Table>(objects: &T, job: &Job) -> Option<Exception>
     ensures { result ≡ start_failure (T.held objects.now) job.now }
 {

@@ -1,8 +1,8 @@
 //! Who acts in a process.
 ghost use Rattle.std.specs.Prelude.{◌≡◌, ◌+◌, ◌<◌, ◌≤◌, ◌++◌, ◌∷◌, [], IfSome, IsTrue, length, map};
 ghost use Rattle.std.specs.Option.{option_map};
-ghost use Rattle.s38_rules.specs.Invocations.{in_use, most_frames, stack_of};
-ghost use Rattle.s38_rules.specs.Users.{acting, adopted, adoption_of, frame_header, with_owner};
+ghost use Rattle.s38_rules.specs.state.Invocations.{in_use, most_frames, stack_of};
+ghost use Rattle.s38_rules.specs.ask.Users.{acting, adopted, adoption_of, frame_header, with_owner};
 
 use crate::core_state::Core;
 use s38_base::{ObjNum, UserNum};
@@ -152,7 +152,7 @@ impl<T: Table, P: UserMaps> Core<T, P> {
     /// The user of a process that has come to a depth of invocations, where it is known at once that nobody else acts:
     /// there is at most one frame, and it brings nobody.
     #[inline(always)]
-    #[tactic(auto, unfolding(s38_rules::specs::Users::acting))]
+    #[tactic(auto, unfolding(s38_rules::specs::ask::Users::acting))]
     pub fn sole_user(&self, process: u32, depth: u16) -> Option<UserNum>
         ensures { IfSome result (λ user. acting self.now process depth ≡ user.0 ∷ []) }
     {
@@ -166,7 +166,7 @@ impl<T: Table, P: UserMaps> Core<T, P> {
     /// The acting users of a process that has come to a depth of invocations join those that act, who are nobody
     /// yet: its user, and the owners of programs that adopt.
     #[inline(always)]
-    #[tactic(auto, unfolding(s38_rules::specs::Users::acting))]
+    #[tactic(auto, unfolding(s38_rules::specs::ask::Users::acting))]
     pub fn act(&self, process: u32, depth: u16, users: &mut Acting)
         requires { users.old ≡ [] }
         ensures { users.new ≡ acting self.now process depth }

@@ -1,4 +1,4 @@
-pub mod Adapters
+pub mod Answers
 pub mod Calls
 pub mod Memory
 pub mod Reading

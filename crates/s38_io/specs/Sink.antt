@@ -1,4 +1,4 @@
--- What a sink was given: bytes behind what was written, where that is told.
+-- What a sink was given: bytes after what was written, where that is told.
 use Rattle.std.specs.Prelude.{◌≡◌, ℕ, List, take, drop, Option, Result, MatchResult}
 use Rattle.std.specs.Io.KnownBytes.{Appends}
 

@@ -25,7 +25,7 @@ ReadsAll most old new bytes = IfSome old (λ xs. IsRead most xs new bytes)
 abbrev pub LosesFront : Option (List ℕ) → Option (List ℕ) → Type 0
 LosesFront old new = (bytes : List ℕ) × Consumes old new bytes
 
--- n bytes came next and were added behind the others, 0 with room only at the end
+-- n bytes came next and were added after the others, 0 with room only at the end
 pub record AddsPiece (old new : Option (List ℕ)) (before after : List ℕ) (room n : ℕ) : Type 0 where
   pub fits : n ≤ room
   pub grows : length after ≡ length before + n

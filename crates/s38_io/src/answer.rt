@@ -1,5 +1,6 @@
+//! What the answer of a call of the system comes to.
 ghost use Rattle.std.specs.Prelude.{◌≡◌};
-ghost use Rattle.s38_io.specs.Adapters.{is_interrupted, of_error, of_flush, of_read, of_write};
+ghost use Rattle.s38_io.specs.Answers.{is_interrupted, of_error, of_flush, of_read, of_write};
 
 use std::io;
 use std::io::ErrorKind;
@@ -31,7 +32,7 @@ fn of_error(error: io::Error) -> Answer
     }
 }
 
-/// What a read comes to.
+/// What a read comes to: no bytes at the end.
 pub fn of_read(answer: io::Result<usize>) -> Answer
     ensures { result ≡ of_read answer }
 {
@@ -52,7 +53,7 @@ pub fn of_write(answer: io::Result<usize>) -> Answer
     }
 }
 
-/// What a flush comes to.
+/// What a flush or a sync comes to: every error is a fault.
 pub fn of_flush(answer: io::Result<()>) -> Answer
     ensures { result ≡ of_flush answer }
 {

@@ -1,8 +1,8 @@
 //! How bytes come in and go out: a source and a sink, which count their faults, each in memory for tests
-//! and over a reader or a writer of the system.
+//! and over a reader or a writer of the system; and what the answer of a call of the system comes to.
 #![tactic(auto)]
 
-mod answer;
+pub mod answer;
 mod calls;
 mod mem_sink;
 mod mem_source;
@@ -28,4 +28,5 @@ pub fn all_may_be_sent() {
     sends::<MemSource>();
     sends::<MemSink>();
     sends::<ReadFault>();
+    sends::<answer::Answer>();
 }

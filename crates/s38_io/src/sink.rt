@@ -13,8 +13,8 @@ pub trait Sink {
     /// How often the sink has failed.
     ghost faults: { Self → ℕ };
 
-    /// Writes a piece behind what was written. After `Failed` some prefix of the piece was. The count of
-    /// faults rises by one there, unless it stands at its last value, and nowhere else.
+    /// Writes a piece after what was written. After `Failed` some prefix of the piece was. The count of
+    /// faults rises by one there, unless it is at its last value, and nowhere else.
     fn put(&mut self, piece: &[u8]) -> Result<(), Failed>
         ensures puts { Puts (written self.old) (written self.new) result piece.now }
         ensures cause { HasCause (faults self.old) (faults self.new) result }

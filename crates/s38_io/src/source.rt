@@ -14,8 +14,8 @@ pub trait Source {
     ghost faults: { Self → ℕ };
 
     /// Fills the front of a piece with the bytes that come next, and says how many they are: 0 for a piece
-    /// with room means the end. Behind them the piece may hold any bytes. `Failed` takes nothing away. The
-    /// count of faults rises by one there, unless it stands at its last value, and nowhere else.
+    /// with room means the end. After them the piece may hold any bytes. `Failed` takes nothing away. The
+    /// count of faults rises by one there, unless it is at its last value, and nowhere else.
     fn take(&mut self, into: &mut [u8]) -> Result<usize, Failed>
         ensures bound { ReadsAtMost result into.new }
         ensures takes { Takes (left self.old) (left self.new) result into.new }

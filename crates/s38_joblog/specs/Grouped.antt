@@ -3,17 +3,17 @@ use Rattle.std.specs.Prelude.{◌≡◌, ℕ, ◌+◌, ◌<◌, ◌==◌, List, 
 use Rattle.std.specs.List.{enumerate_from}
 use Rattle.s38_code.specs.declared.deck.Job.{Job}
 use Rattle.s38_code.specs.declared.entry.Entry.{Entry}
-use Rattle.s38_joblog.specs.Log.{entry_line, job_line, lines_of}
+use Rattle.s38_joblog.specs.Log.{entry_line, job_head_line, lines_of}
 
 -- a numbered job's line
 abbrev pub head : ℕ × Job → List ℕ
-head numbered = job_line numbered.0 numbered.1
+head numbered = job_head_line numbered.0 numbered.1
 
 -- the lines of the jobs
 abbrev pub heads : List Job → List (List ℕ)
 heads jobs = map head (enumerate_from 1 jobs)
 
--- the text at place j has the lines of process j + 1 behind its first line
+-- the text at place j has the lines of process j + 1 after its first line
 pub record AreGrouped (first : List (List ℕ)) (history : List Entry) (texts : List (List ℕ)) : Type 0 where
   pub lines : (j : ℕ) → j < length texts → slice_index_or texts j [] ≡ slice_index_or first j [] ++ lines_of (j + 1) history
 

@@ -9,7 +9,7 @@ use Rattle.s38_code.specs.declared.event.Event.TheVariants.{Start, Act, Finish}
 use Rattle.s38_code.specs.declared.reply.Reply.{Reply}
 use Rattle.s38_code.specs.declared.reply.Reply.TheVariants.{Done, Signal, MustWait}
 use Rattle.s38_code.specs.declared.reply.Val.{Val}
-use Rattle.s38_joblog.specs.Words.{value_text, exception_text, cause_text}
+use Rattle.s38_joblog.specs.Words.{cause_text, exception_text, value_text}
 
 abbrev pub event_name : Event → List ℕ
 event_name Start = codes "START"
@@ -32,25 +32,25 @@ unfoldable pub entry_line : ℕ → Entry → List ℕ
 entry_line position e =
     decimal position ++ (codes " " ++ (event_name e.event ++ (codes " " ++ (result_text e.event e.reply ++ 10 ∷ []))))
 
-unfoldable pub job_line : ℕ → Job → List ℕ
-job_line number job = codes "JOB " ++ (decimal number ++ (codes " " ++ (job.name ++ (codes " USER " ++ (job.user ++ 10 ∷ [])))))
+unfoldable pub job_head_line : ℕ → Job → List ℕ
+job_head_line number job = codes "JOB " ++ (decimal number ++ (codes " " ++ (job.name ++ (codes " USER " ++ (job.user ++ 10 ∷ [])))))
 
-abbrev pub is_of : ℕ → ℕ × Entry → Bool
-is_of number placed = placed.1.process == number
+abbrev pub is_of_job : ℕ → ℕ × Entry → Bool
+is_of_job number placed = placed.1.process == number
 
 abbrev pub placed_line : ℕ × Entry → List ℕ
 placed_line placed = entry_line placed.0 placed.1
 
 -- the lines of a process; positions in the whole history count from 1
 unfoldable pub lines_of : ℕ → List Entry → List ℕ
-lines_of number history = flat_map placed_line (filter (is_of number) (enumerate_from 1 history))
+lines_of number history = flat_map placed_line (filter (is_of_job number) (enumerate_from 1 history))
 
-abbrev pub job_text : List Entry → ℕ × Job → List ℕ
-job_text history numbered = job_line numbered.0 numbered.1 ++ lines_of numbered.0 history
+abbrev pub job_log_text : List Entry → ℕ × Job → List ℕ
+job_log_text history numbered = job_head_line numbered.0 numbered.1 ++ lines_of numbered.0 history
 
 -- jobs are numbered from 1
 unfoldable pub log_text : List Entry → List Job → List ℕ
-log_text history jobs = flat_map (job_text history) (enumerate_from 1 jobs)
+log_text history jobs = flat_map (job_log_text history) (enumerate_from 1 jobs)
 
 -- the last line of a run
 abbrev pub last_line : ℕ → List ℕ

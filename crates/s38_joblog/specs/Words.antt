@@ -19,23 +19,23 @@ use Rattle.s38_code.specs.declared.reply.Val.TheVariants.{Bytes, Ptr, Branch, Co
 abbrev pub hex_digit : ℕ → ℕ
 hex_digit d = if nat_le d 9 then d + 48 else d + 55
 
-abbrev pub hex_byte : ℕ → List ℕ
-hex_byte byte = hex_digit (byte / 16) ∷ hex_digit (byte % 16) ∷ []
+abbrev pub byte_as_hex : ℕ → List ℕ
+byte_as_hex byte = hex_digit (byte / 16) ∷ hex_digit (byte % 16) ∷ []
 
 abbrev pub hex_text : List ℕ → List ℕ
-hex_text bytes = flat_map hex_byte bytes
+hex_text bytes = flat_map byte_as_hex bytes
 
 -- four digits
 abbrev pub hex_code : ℕ → List ℕ
-hex_code code = hex_byte (code / 256) ++ hex_byte (code % 256)
+hex_code code = byte_as_hex (code / 256) ++ byte_as_hex (code % 256)
 
 -- ---- rights and special authorities
 
--- the name behind a +, where its bit is set
+-- the name after a +, where its bit is set
 abbrev pub named_bit : ℕ → ℕ → List ℕ → List ℕ
 named_bit bits bit name = if bit_and bits bit == bit then 43 ∷ name else []
 
--- the names of the rights, each behind a +
+-- the names of the rights, each after a +
 abbrev pub right_names : ℕ → List ℕ
 right_names bits =
     named_bit bits rights.objctl (codes "OBJCTL") ++ (named_bit bits rights.objmgt (codes "OBJMGT") ++ (named_bit bits rights.autptr (codes "AUTPTR") ++ (named_bit bits rights.space (codes "SPACE")
@@ -51,11 +51,11 @@ special_names bits = named_bit bits rights.allobj (codes "ALLOBJ") ++ named_bit 
 unfoldable pub special_word : ℕ → List ℕ
 special_word bits = if bits == 0 then codes "NONE" else drop 1 (special_names bits)
 
--- ---- values, each behind a blank
+-- ---- values, each after a blank
 
 abbrev pub pointer_text : Option Pointer → List ℕ
 pointer_text None = codes "-"
-pointer_text (Some (System object held)) = codes "S" ++ (decimal object.0 ++ (codes "/" ++ hex_byte held.0))
+pointer_text (Some (System object held)) = codes "S" ++ (decimal object.0 ++ (codes "/" ++ byte_as_hex held.0))
 pointer_text (Some (Space object offset)) = codes "A" ++ (decimal object.0 ++ (codes "+" ++ decimal offset))
 pointer_text (Some (Item object offset attr)) = codes "D" ++ (decimal object.0 ++ (codes "+" ++ decimal offset))
 
@@ -79,7 +79,7 @@ state_word Lsup = codes "LSUP"
 state_word Lear = codes "LEAR"
 state_word Lenr = codes "LENR"
 
--- each part of a detail stands behind a blank
+-- each part of a detail comes after a blank
 unfoldable pub detail_text : Rule → List ℕ
 detail_text Plain = []
 detail_text (Missing missing) = codes " " ++ rights_word missing.0

@@ -1,6 +1,6 @@
 ghost use Rattle.std.specs.Prelude.{◌≡◌, ◌+◌, ◌<◌, ◌++◌, [], codes, length, slice_set, IfOk, OnOk};
 ghost use Rattle.std.specs.List.{flat_map, slice_index_or};
-ghost use Rattle.s38_joblog.specs.Log.{bad_line, done_text, entry_line, event_name, job_line, last_line, log_text, result_text};
+ghost use Rattle.s38_joblog.specs.Log.{bad_line, done_text, entry_line, event_name, job_head_line, last_line, log_text, result_text};
 ghost use Rattle.s38_joblog.specs.Grouped.{AreGrouped, Gains, heads};
 ghost use Rattle.s38_joblog.specs.Words.{value_text};
 
@@ -20,7 +20,7 @@ fn add_event_name(text: &mut Text, event: &Event) -> Result<(), NoMemory>
     }
 }
 
-/// Adds values, each behind a blank.
+/// Adds values, each after a blank.
 fn add_values(text: &mut Text, values: &[Val]) -> Result<(), NoMemory>
     ensures { OnOk result (text.new ≡ text.old ++ flat_map value_text values.now) }
 {
@@ -76,9 +76,9 @@ fn add_entry_line(
 }
 
 /// Adds a job's line: its number, its name and its user.
-#[tactic(auto, unfolding(crate::specs::Log::job_line))]
+#[tactic(auto, unfolding(crate::specs::Log::job_head_line))]
 fn add_job_line(text: &mut Text, number: u64, job: &Job) -> Result<(), NoMemory>
-    ensures { OnOk result (text.new ≡ text.old ++ job_line number job.now) }
+    ensures { OnOk result (text.new ≡ text.old ++ job_head_line number job.now) }
 {
     text.add(b"JOB ")?;
     text.add_number(number)?;
@@ -91,7 +91,7 @@ fn add_job_line(text: &mut Text, number: u64, job: &Job) -> Result<(), NoMemory>
 
 /// A text with a job's line.
 fn begun_text(alloc: Global, number: u64, job: &Job) -> Result<Text, NoMemory>
-    ensures { IfOk result (λ text. text ≡ job_line number job.now) }
+    ensures { IfOk result (λ text. text ≡ job_head_line number job.now) }
 {
     let mut text = Text::new(alloc);
     add_job_line(&mut text, number, job)?;
@@ -151,7 +151,7 @@ fn grouped(alloc: Global, history: &[Entry], jobs: &[Job]) -> Result<Vec<Text>, 
     Ok(texts)
 }
 
-/// The texts one behind another. Each is dropped once it was added, and the first is not copied.
+/// The texts one after another. Each is dropped once it was added, and the first is not copied.
 fn joined(alloc: Global, texts: Vec<Text>) -> Result<Text, NoMemory>
     ensures { IfOk result (λ text. text ≡ flat_map (λ t. t) texts.items) }
 {

@@ -1,5 +1,5 @@
 ghost use Rattle.std.specs.Prelude.{◌≡◌, ◌<◌, ◌≤◌, ◌+◌, ◌*◌, ◌++◌, ◌∷◌, [], decimal, length, vec_capacity, vec_len, OnOk};
-ghost use Rattle.s38_joblog.specs.Words.{hex_byte, hex_code, hex_digit, hex_text};
+ghost use Rattle.s38_joblog.specs.Words.{byte_as_hex, hex_code, hex_digit, hex_text};
 
 use itoa::Buffer;
 use s38_base::NoMemory;
@@ -32,7 +32,7 @@ fn hex_digit(number: u8) -> u8
     }
 }
 
-/// Puts two hexadecimal digits for each byte behind a text that has the room.
+/// Puts two hexadecimal digits for each byte after a text that has the room.
 fn put_hex(text: &mut Vec<u8>, bytes: &[u8])
     requires { vec_len text.old + 2 * length bytes.now ≤ vec_capacity text.old }
     ensures { text.new.items ≡ text.old.items ++ hex_text bytes.now }
@@ -110,7 +110,7 @@ impl Text {
     /// Adds two hexadecimal digits.
     #[inline(always)]
     pub fn add_hex_byte(&mut self, byte: u8) -> Result<(), NoMemory>
-        ensures { OnOk result (self.new ≡ self.old ++ hex_byte byte) }
+        ensures { OnOk result (self.new ≡ self.old ++ byte_as_hex byte) }
     {
         self.add_byte(hex_digit(byte / 16))?;
         self.add_byte(hex_digit(byte % 16))

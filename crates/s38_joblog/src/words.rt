@@ -1,12 +1,12 @@
 ghost use Rattle.std.specs.Prelude.{◌≡◌, ◌++◌, codes, decimal, drop, IfOk, OnOk};
-ghost use Rattle.s38_joblog.specs.Words.{answer_text, cause_text, detail_text, exception_text, hex_byte, hex_code, named_bit, pointer_text, right_names, rights_word, special_names, special_word, state_word, value_text};
+ghost use Rattle.s38_joblog.specs.Words.{answer_text, byte_as_hex, cause_text, detail_text, exception_text, hex_code, named_bit, pointer_text, right_names, rights_word, special_names, special_word, state_word, value_text};
 
 use crate::text::Text;
 use s38_base::{Exception, LockState, NoMemory, Pointer, Rights, Rule, Special};
 use s38_code::{EndCause, Val};
 use std::alloc::Global;
 
-/// Adds a name behind a `+`, where its bit is set.
+/// Adds a name after a `+`, where its bit is set.
 fn add_named_bit(text: &mut Text, bits: u8, bit: u8, name: &[u8]) -> Result<(), NoMemory>
     ensures { OnOk result (text.new ≡ text.old ++ named_bit bits bit name.now) }
 {
@@ -17,7 +17,7 @@ fn add_named_bit(text: &mut Text, bits: u8, bit: u8, name: &[u8]) -> Result<(), 
     text.add(name)
 }
 
-/// The names of the rights, each behind a `+`.
+/// The names of the rights, each after a `+`.
 fn right_names(alloc: Global, bits: u8) -> Result<Text, NoMemory>
     ensures { IfOk result (λ text. text ≡ right_names bits) }
 {
@@ -33,7 +33,7 @@ fn right_names(alloc: Global, bits: u8) -> Result<Text, NoMemory>
     Ok(text)
 }
 
-/// The names of the special authorities, each behind a `+`.
+/// The names of the special authorities, each after a `+`.
 fn special_names(alloc: Global, bits: u8) -> Result<Text, NoMemory>
     ensures { IfOk result (λ text. text ≡ special_names bits) }
 {
@@ -44,7 +44,7 @@ fn special_names(alloc: Global, bits: u8) -> Result<Text, NoMemory>
 }
 
 /// All but the first byte.
-fn behind_first(bytes: &[u8]) -> &[u8]
+fn after_first(bytes: &[u8]) -> &[u8]
     ensures { result.now ≡ drop 1 bytes.now }
 {
     if bytes.is_empty() { bytes } else { &bytes[1..] }
@@ -62,7 +62,7 @@ pub fn add_rights(alloc: Global, text: &mut Text, rights: Rights) -> Result<(), 
         return text.add(b"NONE");
     }
     let names = right_names(alloc, rights.0)?;
-    text.add(behind_first(names.as_slice()))
+    text.add(after_first(names.as_slice()))
 }
 
 /// Adds the names of special authorities, joined by `+`; none are NONE.
@@ -74,7 +74,7 @@ fn add_special(alloc: Global, text: &mut Text, special: Special) -> Result<(), N
         return text.add(b"NONE");
     }
     let names = special_names(alloc, special.0)?;
-    text.add(behind_first(names.as_slice()))
+    text.add(after_first(names.as_slice()))
 }
 
 /// Adds a letter, an object's number, a `+` and an offset.
@@ -89,7 +89,7 @@ fn add_place(text: &mut Text, letter: &[u8], object: u64, offset: u32) -> Result
 
 /// Adds a system pointer: its object's number, and its rights as two digits.
 fn add_system(text: &mut Text, object: u64, rights: u8) -> Result<(), NoMemory>
-    ensures { OnOk result (text.new ≡ text.old ++ (codes "S" ++ (decimal object ++ (codes "/" ++ hex_byte rights)))) }
+    ensures { OnOk result (text.new ≡ text.old ++ (codes "S" ++ (decimal object ++ (codes "/" ++ byte_as_hex rights)))) }
 {
     text.add_byte(b'S')?;
     text.add_number(object)?;
@@ -119,7 +119,7 @@ fn add_answer(text: &mut Text, answer: bool) -> Result<(), NoMemory>
     }
 }
 
-/// Adds a value behind a blank; a program adds nothing.
+/// Adds a value after a blank; a program adds nothing.
 #[tactic(auto, unfolding(crate::specs::Words::value_text))]
 pub fn add_value(text: &mut Text, value: &Val) -> Result<(), NoMemory>
     ensures { OnOk result (text.new ≡ text.old ++ value_text value.now) }
@@ -150,7 +150,7 @@ fn add_state(text: &mut Text, state: LockState) -> Result<(), NoMemory>
     }
 }
 
-/// Adds a number behind a blank.
+/// Adds a number after a blank.
 fn add_detail_number(text: &mut Text, number: u32) -> Result<(), NoMemory>
     ensures { OnOk result (text.new ≡ text.old ++ (codes " " ++ decimal number)) }
 {
@@ -158,7 +158,7 @@ fn add_detail_number(text: &mut Text, number: u32) -> Result<(), NoMemory>
     text.add_number(u64::from(number))
 }
 
-/// Adds what an exception says beside its code and operand, each part behind a blank.
+/// Adds what an exception says beside its code and operand, each part after a blank.
 #[tactic(auto, unfolding(crate::specs::Words::detail_text))]
 fn add_detail(alloc: Global, text: &mut Text, rule: Rule) -> Result<(), NoMemory>
     ensures { OnOk result (text.new ≡ text.old ++ detail_text rule) }
@@ -197,7 +197,7 @@ pub fn add_exception(alloc: Global, text: &mut Text, exception: Exception) -> Re
     add_detail(alloc, text, exception.rule)
 }
 
-/// Adds a word and the code behind it.
+/// Adds a word and the code after it.
 fn add_coded(text: &mut Text, word: &[u8], code: u16) -> Result<(), NoMemory>
     ensures { OnOk result (text.new ≡ text.old ++ (word.now ++ hex_code code)) }
 {

@@ -1,10 +1,10 @@
 ghost use Rattle.std.specs.Bool.{OnTrue};
 ghost use Rattle.std.specs.Prelude.{◌≡◌, ◌≤◌, IsTrue, length};
-ghost use Rattle.s38_journals.specs.Entries.{entered, entry_len, is_end, kind_code, may_stand};
+ghost use Rattle.s38_journals.specs.Entries.{entry_kind_code, is_end, journal_entry_len, logged_entry, may_be_at};
 
 use s38_base::ObjNum;
 
-/// How many bytes of an entry stand before those of the data.
+/// How many bytes of an entry come before those of the data.
 pub const HEAD: usize = 41;
 
 /// How many bytes the data before, and the data after, may have.
@@ -21,9 +21,9 @@ pub enum EntryKind {
 }
 
 impl EntryKind {
-    /// The number that stands for the kind in an entry, 1 to 5.
+    /// The number of the kind in an entry, 1 to 5.
     pub fn code(self) -> u8
-        ensures { result ≡ kind_code self }
+        ensures { result ≡ entry_kind_code self }
     {
         match self {
             EntryKind::Insert => 1,
@@ -58,8 +58,8 @@ pub struct JournalEntry<'a> {
 impl<'a> JournalEntry<'a> {
     /// Whether the entry keeps to the format at a sequence: its unit began there or before, the end of a unit names no
     /// data space and no ordinal, and the data have at most 65,535 bytes each.
-    pub fn may_stand(&self, sequence: u64) -> bool
-        ensures stands { result ≡ may_stand sequence (entered self.now) }
+    pub fn may_be_at(&self, sequence: u64) -> bool
+        ensures stands { result ≡ may_be_at sequence (logged_entry self.now) }
         ensures unit { OnTrue result (self.now.unit ≤ sequence) }
         ensures end { OnTrue result (IsTrue (is_end self.now.kind) → (self.now.object.0 ≡ 0) × (self.now.ordinal ≡ 0)) }
         ensures before { OnTrue result (length self.now.before.now ≤ 65535) }
@@ -75,7 +75,7 @@ impl<'a> JournalEntry<'a> {
     pub fn len(&self) -> u32
         requires before { length self.now.before.now ≤ 65535 }
         requires after { length self.now.after.now ≤ 65535 }
-        ensures len { result ≡ entry_len (entered self.now) }
+        ensures len { result ≡ journal_entry_len (logged_entry self.now) }
         ensures bound { result ≤ 131111 }
     {
         (HEAD + self.before.len() + self.after.len()) as u32

@@ -1,5 +1,5 @@
 ghost use Rattle.std.specs.Prelude.{◌≡◌, ◌≤◌, IsTrue, length};
-ghost use Rattle.s38_journals.specs.Entries.{entered, fits, head};
+ghost use Rattle.s38_journals.specs.Entries.{fits_head, head, logged_entry};
 
 use crate::entry::{HEAD, JournalEntry};
 use byteorder::{BigEndian, ByteOrder};
@@ -10,9 +10,9 @@ use byteorder::{BigEndian, ByteOrder};
 pub fn head_of(sequence: u64, entry: &JournalEntry) -> [u8; HEAD]
     requires before { length entry.now.before.now ≤ 65535 }
     requires after { length entry.now.after.now ≤ 65535 }
-    ensures head { result ≡ head sequence (entered entry.now) }
+    ensures head { result ≡ head sequence (logged_entry entry.now) }
     ensures len { length result ≡ 41 }
-    ensures fits { IsTrue (fits (entered entry.now)) }
+    ensures fits { IsTrue (fits_head (logged_entry entry.now)) }
 {
     let mut head = [0; HEAD];
     BigEndian::write_u32(&mut head, entry.len());

@@ -1,9 +1,9 @@
 ghost use Rattle.std.specs.Bool.{OnTrue};
 ghost use Rattle.std.specs.Prelude.{◌≡◌, ◌+◌, ◌*◌, ◌≤◌, ◌<◌, [], IfErr, IfNone, IsErrOf, IsTrue, None, OnOk, OnErr, length, option_map, sum_by};
 ghost use Rattle.std.specs.Option.{option_copied, unwrap_or};
-ghost use Rattle.s38_journals.specs.Entries.{entered, entry_image, entry_len, fits, is_end};
+ghost use Rattle.s38_journals.specs.Entries.{entry_image, fits_head, is_end, journal_entry_len, logged_entry};
 ghost use Rattle.s38_journals.specs.Stored.{with_piece};
-ghost use Rattle.s38_journals.specs.Journals.{appended, bytes_at, can_write, entries_len, entry_at, forced, journal_image, may_all_stand, room_refusal, wanted, with_room, written};
+ghost use Rattle.s38_journals.specs.Journals.{appended, bytes_wanted, can_write, entries_len, entry_bytes_at, forced, journal_entry_at, journal_image, journal_with, journal_with_room, may_all_be_from, room_refusal};
 
 use crate::entry::{HEAD, JournalEntry};
 use crate::fault::JournalFault;
@@ -38,7 +38,7 @@ impl Model for Journal {
 
 /// How many bytes a change takes, and of each open unit the entry that will end it.
 fn wanted(bytes: u32, units: u32) -> u64
-    ensures { result ≡ wanted bytes units }
+    ensures { result ≡ bytes_wanted bytes units }
 {
     u64::from(bytes) + HEAD as u64 * u64::from(units)
 }
@@ -48,10 +48,10 @@ fn wanted(bytes: u32, units: u32) -> u64
 fn push_entry(pieces: &mut Pieces, sequence: u64, entry: &JournalEntry) -> u32
     requires before { length entry.now.before.now ≤ 65535 }
     requires after { length entry.now.after.now ≤ 65535 }
-    requires room { entry_len (entered entry.now) ≤ pieces.old.spare }
-    ensures pushed { pieces.new ≡ with_piece pieces.old (entry_image sequence (entered entry.now)) }
-    ensures len { result ≡ entry_len (entered entry.now) }
-    ensures fits { IsTrue (fits (entered entry.now)) }
+    requires room { journal_entry_len (logged_entry entry.now) ≤ pieces.old.spare }
+    ensures pushed { pieces.new ≡ with_piece pieces.old (entry_image sequence (logged_entry entry.now)) }
+    ensures len { result ≡ journal_entry_len (logged_entry entry.now) }
+    ensures fits { IsTrue (fits_head (logged_entry entry.now)) }
     ensures small { sum_by length pieces.new.pieces ≤ 16777216 }
 {
     pieces.push(&head_of(sequence, entry), entry.before, entry.after);
@@ -72,7 +72,7 @@ impl Journal {
     /// The last sequence; 0 where there is no entry. Each entry keeps to the format.
     pub fn last(&self) -> u64
         ensures last { result ≡ length self.now.entries }
-        ensures stand { IsTrue (may_all_stand 1 self.now.entries) }
+        ensures stand { IsTrue (may_all_be_from 1 self.now.entries) }
         ensures bound { 41 * result ≤ 16777216 }
     {
         self.pieces.count() as u64
@@ -90,8 +90,8 @@ impl Journal {
     /// The bytes of the entry of a sequence; None where there is none.
     #[tactic(auto, using(crate::proofs::JournalLaws::found_bytes))]
     pub fn entry(&self, seq: u64) -> Option<&[u8]>
-        ensures bytes { option_copied result ≡ bytes_at self.now.entries seq }
-        ensures stand { IsTrue (may_all_stand 1 self.now.entries) }
+        ensures bytes { option_copied result ≡ entry_bytes_at self.now.entries seq }
+        ensures stand { IsTrue (may_all_be_from 1 self.now.entries) }
     {
         let pieces = &self.pieces;
         if seq == 0 {
@@ -102,7 +102,7 @@ impl Journal {
 
     /// What the entry of a sequence says; None where there is none.
     pub fn get(&self, seq: u64) -> Option<JournalEntry<'_>>
-        ensures { option_map entered result ≡ entry_at self.now.entries seq }
+        ensures { option_map logged_entry result ≡ journal_entry_at self.now.entries seq }
     {
         match self.entry(seq) {
             Some(bytes) => Some(entry_of(bytes)),
@@ -139,7 +139,7 @@ impl Journal {
     #[tactic(auto, using(crate::proofs::JournalLaws::kept_len))]
     fn room_refusal(&self, bytes: u32, units: u32) -> Option<JournalFault>
         ensures refusal { result ≡ room_refusal self.now bytes units }
-        ensures fits { IfNone result (entries_len self.now.entries + wanted bytes units ≤ 16777216) }
+        ensures fits { IfNone result (entries_len self.now.entries + bytes_wanted bytes units ≤ 16777216) }
     {
         if u64::from(self.pieces.len()) + wanted(bytes, units) > LARGEST {
             return Some(JournalFault::Full);
@@ -154,10 +154,10 @@ impl Journal {
     #[tactic(auto, using(crate::proofs::JournalLaws::kept_len))]
     pub fn reserve(&mut self, bytes: u32, units: u32) -> Result<(), JournalFault>
         ensures accepted { OnOk result (room_refusal self.old bytes units ≡ None) }
-        ensures ok { OnOk result (self.new ≡ with_room self.old bytes units) }
+        ensures ok { OnOk result (self.new ≡ journal_with_room self.old bytes units) }
         ensures fault { IfErr result (λ fault. fault ≡ unwrap_or (room_refusal self.old bytes units) JournalFault.NoMemory) }
         ensures err { OnErr result (self.new ≡ self.old) }
-        ensures room { IsErrOf result JournalFault.NoMemory → self.old.spare < wanted bytes units }
+        ensures room { IsErrOf result JournalFault.NoMemory → self.old.spare < bytes_wanted bytes units }
     {
         if let Some(fault) = self.room_refusal(bytes, units) {
             return Err(fault);
@@ -189,30 +189,30 @@ impl Journal {
         requires end { IsTrue (is_end entry.now.kind) → (entry.now.object.0 ≡ 0) × (entry.now.ordinal ≡ 0) }
         requires before { length entry.now.before.now ≤ 65535 }
         requires after { length entry.now.after.now ≤ 65535 }
-        requires room { entry_len (entered entry.now) ≤ self.old.spare }
+        requires room { journal_entry_len (logged_entry entry.now) ≤ self.old.spare }
         ensures sequence { result ≡ length self.old.entries + 1 }
-        ensures appended { self.new ≡ appended self.old (entered entry.now) }
+        ensures appended { self.new ≡ appended self.old (logged_entry entry.now) }
     {
         let sequence = self.last() + 1;
         self.unforced += push_entry(&mut self.pieces, sequence, entry);
         sequence
     }
 
-    /// Whether an entry may be written next: it may stand there, and its room is reserved.
+    /// Whether an entry may be written next: it may come next, and its room is reserved.
     fn can_write(&self, entry: &JournalEntry) -> bool
-        ensures can { result ≡ can_write self.now (entered entry.now) }
+        ensures can { result ≡ can_write self.now (logged_entry entry.now) }
         ensures unit { OnTrue result (entry.now.unit ≤ length self.now.entries + 1) }
         ensures end { OnTrue result (IsTrue (is_end entry.now.kind) → (entry.now.object.0 ≡ 0) × (entry.now.ordinal ≡ 0)) }
         ensures before { OnTrue result (length entry.now.before.now ≤ 65535) }
         ensures after { OnTrue result (length entry.now.after.now ≤ 65535) }
-        ensures room { OnTrue result (entry_len (entered entry.now) ≤ self.now.spare) }
+        ensures room { OnTrue result (journal_entry_len (logged_entry entry.now) ≤ self.now.spare) }
     {
-        entry.may_stand(self.last() + 1) && entry.len() <= self.spare()
+        entry.may_be_at(self.last() + 1) && entry.len() <= self.spare()
     }
 
-    /// Adds an entry, without memory, where it may stand next and the spare number reaches; else nothing changes.
+    /// Adds an entry, without memory, where it may come next and the spare number reaches; else nothing changes.
     pub fn write(&mut self, entry: &JournalEntry)
-        ensures { self.new ≡ written self.old (entered entry.now) }
+        ensures { self.new ≡ journal_with self.old (logged_entry entry.now) }
     {
         if self.can_write(entry) {
             self.append(entry);

@@ -1,6 +1,6 @@
 ghost use Rattle.std.specs.Prelude.{◌≡◌, ◌+◌, ◌-◌, ◌*◌, ◌≤◌, ◌<◌, ◌∷◌, ◌++◌, [], IsTrue, IsOk, OnOk, OnErr, length, max, sum_by, take, drop, vec_capacity, vec_len, slice_get, slice_index};
 ghost use Rattle.std.specs.Option.{option_copied};
-ghost use Rattle.s38_journals.specs.Stored.{are_ends, cut, joined, with_piece};
+ghost use Rattle.s38_journals.specs.Stored.{are_ends, joined, pieces_cut, with_piece};
 
 use crate::entry::HEAD;
 use s38_base::NoMemory;
@@ -17,11 +17,11 @@ pub struct Pieces {
 
 impl Model for Pieces {
     ghost use Rattle.std.specs.Prelude.{vec_capacity, vec_len};
-    ghost use Rattle.s38_journals.specs.Stored.{IsKept, Kept, cut};
+    ghost use Rattle.s38_journals.specs.Stored.{IsKept, KeptPieces, pieces_cut};
 
-    ghost Value = { Kept };
+    ghost Value = { KeptPieces };
 
-    ghost view = { λ p. record { spare = p.spare; pieces = cut 0 p.ends.items p.bytes.items } };
+    ghost view = { λ p. record { spare = p.spare; pieces = pieces_cut 0 p.ends.items p.bytes.items } };
 
     ghost invariant = { λ p. IsKept p.spare p.ends.items (vec_capacity p.ends) (vec_len p.ends) (vec_len p.bytes) (vec_capacity p.bytes) };
 }
@@ -40,7 +40,7 @@ fn start_of(ends: &[u32], at: usize) -> u32
 /// A piece; None past the last.
 fn piece_in<'a>(ends: &[u32], bytes: &'a [u8], at: usize) -> Option<&'a [u8]>
     requires { IsTrue (are_ends 0 ends.now (length bytes.now)) }
-    ensures { option_copied result ≡ slice_get (cut 0 ends.now bytes.now) at }
+    ensures { option_copied result ≡ slice_get (pieces_cut 0 ends.now bytes.now) at }
 {
     if at >= ends.len() {
         return None;
@@ -81,7 +81,7 @@ fn push_end(ends: &mut Vec<u32>, bytes: &[u8], from: usize)
     requires small { length bytes.now ≤ 16777216 }
     requires within { from + 41 ≤ length bytes.now }
     requires whole { IsTrue (are_ends 0 ends.old.items from) }
-    ensures pieces { cut 0 ends.new.items bytes.now ≡ cut 0 ends.old.items (take from bytes.now) ++ drop from bytes.now ∷ [] }
+    ensures pieces { pieces_cut 0 ends.new.items bytes.now ≡ pieces_cut 0 ends.old.items (take from bytes.now) ++ drop from bytes.now ∷ [] }
     ensures whole { IsTrue (are_ends 0 ends.new.items (length bytes.now)) }
     ensures len { vec_len ends.new ≡ vec_len ends.old + 1 }
     ensures kept { vec_capacity ends.old ≤ vec_capacity ends.new }

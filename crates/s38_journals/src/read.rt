@@ -1,15 +1,15 @@
 ghost use Rattle.std.specs.Prelude.{◌≡◌, ◌+◌, ◌≤◌, drop, length};
 ghost use Rattle.byteorder.specs.Endian.{big_number};
-ghost use Rattle.s38_journals.specs.Entries.{entered};
-ghost use Rattle.s38_journals.specs.Stored.{entry_of, kind_of};
+ghost use Rattle.s38_journals.specs.Entries.{logged_entry};
+ghost use Rattle.s38_journals.specs.Stored.{entry_kind_of, entry_of};
 
 use crate::entry::{EntryKind, HEAD, JournalEntry};
 use byteorder::{BigEndian, ByteOrder};
 use s38_base::ObjNum;
 
-/// The kind that a number stands for; the last for any number that stands for none.
+/// The kind of a number; the last kind for any number that is of none.
 fn kind_of(code: u8) -> EntryKind
-    ensures { result ≡ kind_of code }
+    ensures { result ≡ entry_kind_of code }
 {
     match code {
         1 => EntryKind::Insert,
@@ -25,7 +25,7 @@ fn kind_of(code: u8) -> EntryKind
 pub fn entry_of(bytes: &[u8]) -> JournalEntry<'_>
     requires head { 41 ≤ length bytes.now }
     requires before { 41 + big_number 2 (drop 37 bytes.now) ≤ length bytes.now }
-    ensures { entered result ≡ entry_of bytes.now }
+    ensures { logged_entry result ≡ entry_of bytes.now }
 {
     let (before, after) = bytes[HEAD..].split_at(usize::from(BigEndian::read_u16(&bytes[37..])));
     JournalEntry {

@@ -4,7 +4,7 @@ use Rattle.std.specs.List.{flat_map}
 use Rattle.s38_base.specs.declared.id.Id.{Id}
 use Rattle.s38_base.specs.declared.id.Kind.{Kind}
 use Rattle.s38_base.specs.declared.id.Kind.TheVariants as kinds
-use Rattle.s38_joblog.specs.Words.{hex_byte, rights_word}
+use Rattle.s38_joblog.specs.Words.{byte_as_hex, rights_word}
 use Rattle.s38_rules.specs.declared.object.Object.{Object}
 
 abbrev pub kind_word : Kind → List ℕ
@@ -22,9 +22,9 @@ kind_word kinds.Block = codes "CBLOCK"
 
 -- kind, subtype and name, parted by /
 abbrev pub id_word : Id → List ℕ
-id_word id = kind_word id.kind ++ (codes "/" ++ (hex_byte id.sub ++ (codes "/" ++ id.name)))
+id_word id = kind_word id.kind ++ (codes "/" ++ (byte_as_hex id.sub ++ (codes "/" ++ id.name)))
 
--- a word, and a number behind it
+-- a word, and a number after it
 abbrev pub number_word : List ℕ → ℕ → List ℕ
 number_word word number = word ++ decimal number
 

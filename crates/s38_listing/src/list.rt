@@ -19,7 +19,7 @@ fn add_id(text: &mut Text, id: &Id) -> Result<(), NoMemory>
     text.add(id.name.as_bytes())
 }
 
-/// Adds a word and a number behind it.
+/// Adds a word and a number after it.
 fn add_word_and_number(text: &mut Text, word: &[u8], number: u64) -> Result<(), NoMemory>
     ensures { OnOk result (text.new ≡ text.old ++ number_word word.now number) }
 {

@@ -4,4 +4,4 @@ mod PlaceLaws
 mod ReceivedLaws
 pub mod ShapeLaws
 mod SpaceLaws
-pub mod StandLaws
+pub mod FrameLaws

@@ -1,4 +1,4 @@
--- How an instruction changes where its invocation stands: internal calls, and the descriptions of exceptions.
+-- How an instruction changes the frame of its invocation: internal calls, and the descriptions of exceptions.
 use Rattle.std.specs.Prelude.{ℕ, ◌+◌, ◌/◌, ◌%◌, ◌==◌, List, [], ◌∷◌, length, nat_le, Option, Some, slice_set, if◌then◌else◌}
 use Rattle.s38_base.specs.Exceptions as exceptions
 use Rattle.s38_base.specs.Limits.{most_calls}
@@ -11,7 +11,7 @@ use Rattle.s38_local.specs.declared.local_end.LocalEnd.{LocalEnd}
 use Rattle.s38_local.specs.declared.local_end.LocalEnd.TheVariants as ends
 use Rattle.s38_local.specs.Received.{Ran}
 
--- how an instruction ends, and where the invocation stands behind it but for the place
+-- how an instruction ends, and the frame of the invocation after it but for the place
 pub record Moved : Type 0 where
   pub end : LocalEnd
   pub frame : Frame
@@ -30,7 +30,7 @@ moves values moved = record { end = moved.end; frame = moved.frame; values = val
 
 -- ---- internal calls
 
--- an internal call comes back behind its instruction
+-- an internal call comes back after its instruction
 abbrev pub called_at : Frame → ℕ → Moved
 called_at frame at =
     if nat_le most_calls (length frame.returns) then record { end = ends.Signal (plain exceptions.limit_exceeded 0); frame = frame }
@@ -40,7 +40,7 @@ abbrev pub called : Frame → Option Arg → Moved
 called frame (Some (args.Jump at)) = called_at frame at
 called frame _ = record { end = ends.Next; frame = frame }
 
--- a return goes on behind the newest internal call; outside of them it ends the invocation
+-- a return goes on after the newest internal call; outside of them it ends the invocation
 abbrev pub returned_to : Frame → List ℕ → Moved
 returned_to frame [] = record { end = ends.Return; frame = frame }
 returned_to frame (at ∷ more) = record { end = ends.Jump at; frame = record frame { returns = more } }

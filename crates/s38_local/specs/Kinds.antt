@@ -6,11 +6,11 @@ use Rattle.s38_code.specs.declared.reply.Val.{Val}
 use Rattle.s38_compute.specs.Computed.{as_branch, as_bytes, as_number, as_pointer, bytes_given, number_given, pointer_given, test_given}
 use Rattle.s38_local.specs.Local.{of_variables, operand, received}
 use Rattle.s38_local.specs.Received.{Ran}
-use Rattle.s38_local.specs.Variables.{attr_of}
+use Rattle.s38_local.specs.Variables.{argument_attr}
 
 abbrev pub number_run : List Row → List ℕ → List Val → Instruction → Ran
 number_run rows homes values i =
-    received homes values i (Some (as_number (attr_of rows (operand i.args 1)) (number_given i.op i.round (of_variables rows homes values i.args))))
+    received homes values i (Some (as_number (argument_attr rows (operand i.args 1)) (number_given i.op i.round (of_variables rows homes values i.args))))
 
 abbrev pub branch_run : List Row → List ℕ → List Val → Instruction → Ran
 branch_run rows homes values i = received homes values i (Some (as_branch (test_given i.op (of_variables rows homes values i.args))))

@@ -1,5 +1,5 @@
 -- A local instruction: its operands are items of the invocation and literals, and it changes the variables of its
--- items and where the invocation stands alone. Sources are read before a receiver is written, and a signal leaves all
+-- items and the place of the invocation alone. Sources are read before a receiver is written, and a signal leaves all
 -- variables as they are.
 use Rattle.std.specs.Prelude.{ℕ, ◌-◌, ◌&&◌, ◌||◌, Bool, true, false, not, ℤ, pos, List, length, Option, Some, None, Result, Ok, Err, slice_get, if◌then◌else◌}
 use Rattle.std.specs.List.{list_any}
@@ -21,39 +21,39 @@ use Rattle.s38_compute.specs.Readings.{Readings}
 use Rattle.s38_local.specs.declared.frame.Frame.{Frame}
 use Rattle.s38_local.specs.Frames.{Went, called, code_bytes, exception_code, moves, returned, stays, switched}
 use Rattle.s38_local.specs.declared.local_end.LocalEnd.TheVariants as ends
-use Rattle.s38_local.specs.Received.{Ran, bytes_put, goes_on, jump_to, jumps, number_put, signals}
-use Rattle.s38_local.specs.Variables.{attr_of, bytes_of, form_in, held_at, is_based, place_of, pointer_of, put_at}
+use Rattle.s38_local.specs.Received.{Ran, bytes_put, jump_to, jumps, number_put, ran_on, signals}
+use Rattle.s38_local.specs.Variables.{argument_attr, argument_bytes, argument_pointer, form_in, held_at, is_based, item_place, value_put_at}
 
 -- ---- operands, numbered from 1
 
 abbrev pub operand : List Arg → ℕ → Option Arg
 operand given k = slice_get given (k - 1)
 
-abbrev pub number_of : List Row → List ℕ → List Val → Option Arg → Option ℤ
-number_of rows homes values arg = value_of (attr_of rows arg) (bytes_of homes values arg)
+abbrev pub argument_number : List Row → List ℕ → List Val → Option Arg → Option ℤ
+argument_number rows homes values arg = value_of (argument_attr rows arg) (argument_bytes homes values arg)
 
 -- the receiver is operand 1
 abbrev pub receiver_of : List ℕ → List Arg → Option ℕ
-receiver_of homes given = place_of homes (operand given 1)
+receiver_of homes given = item_place homes (operand given 1)
 
-abbrev pub word_of : Option Arg → ℕ
-word_of (Some (args.Word w)) = w
-word_of _ = 0
+abbrev pub argument_word : Option Arg → ℕ
+argument_word (Some (args.Word w)) = w
+argument_word _ = 0
 
-abbrev pub whole_of : Option Arg → ℤ
-whole_of (Some (args.Whole z)) = z
-whole_of _ = pos 0
+abbrev pub argument_whole : Option Arg → ℤ
+argument_whole (Some (args.Whole z)) = z
+argument_whole _ = pos 0
 
 -- what is read among variables
 abbrev pub of_variables : List Row → List ℕ → List Val → List Arg → Readings
 of_variables rows homes values given = record {
-  number = λ k. number_of rows homes values (operand given k);
-  attr = λ k. attr_of rows (operand given k);
-  bytes = λ k. bytes_of homes values (operand given k);
-  pointer = λ k. pointer_of homes values (operand given k);
-  word = λ k. word_of (operand given k);
-  power = whole_of (operand given 3);
-  receiver = attr_of rows (operand given 1);
+  number = λ k. argument_number rows homes values (operand given k);
+  attr = λ k. argument_attr rows (operand given k);
+  bytes = λ k. argument_bytes homes values (operand given k);
+  pointer = λ k. argument_pointer homes values (operand given k);
+  word = λ k. argument_word (operand given k);
+  power = argument_whole (operand given 3);
+  receiver = argument_attr rows (operand given 1);
   room = length (held_at values (receiver_of homes given));
   held = held_at values (receiver_of homes given);
   keeps_rest = true;
@@ -78,11 +78,11 @@ label_at _ = 4
 
 -- what was computed goes to the receiver, or tells whether to branch
 abbrev pub received : List ℕ → List Val → Instruction → Option (Result Given Exception) → Ran
-received homes values i None = goes_on values
+received homes values i None = ran_on values
 received homes values i (Some (Err x)) = signals values x
-received homes values i (Some (Ok (givens.Number attr z))) = goes_on (number_put values (receiver_of homes i.args) attr z)
-received homes values i (Some (Ok (givens.Bytes bytes))) = goes_on (bytes_put values (receiver_of homes i.args) bytes)
-received homes values i (Some (Ok (givens.Pointer p))) = goes_on (put_at values (receiver_of homes i.args) (vals.Ptr (Some p)))
+received homes values i (Some (Ok (givens.Number attr z))) = ran_on (number_put values (receiver_of homes i.args) attr z)
+received homes values i (Some (Ok (givens.Bytes bytes))) = ran_on (bytes_put values (receiver_of homes i.args) bytes)
+received homes values i (Some (Ok (givens.Pointer p))) = ran_on (value_put_at values (receiver_of homes i.args) (vals.Ptr (Some p)))
 received homes values i (Some (Ok (givens.Branch taken))) =
     record { end = jumps taken (operand i.args (label_at i.op)); values = values }
 
@@ -91,11 +91,11 @@ abbrev pub controlled : Frame → List Val → Instruction → Op → Went
 controlled frame values i B = stays frame (record { end = jump_to (operand i.args 1); values = values })
 controlled frame values i Calli = moves values (called frame (operand i.args 1))
 controlled frame values i Rtx = moves values (returned frame)
-controlled frame values i Sigexcp = stays frame (signals values (plain (exception_code (word_of (operand i.args 1))) 0))
-controlled frame values i Retexcpd = stays frame (goes_on (bytes_put values (receiver_of frame.homes i.args) (code_bytes frame.latest)))
+controlled frame values i Sigexcp = stays frame (signals values (plain (exception_code (argument_word (operand i.args 1))) 0))
+controlled frame values i Retexcpd = stays frame (ran_on (bytes_put values (receiver_of frame.homes i.args) (code_bytes frame.latest)))
 controlled frame values i Modexcpd =
-    record { end = ends.Next; frame = switched frame (operand i.args 1) (word_of (operand i.args 2)); values = values }
-controlled frame values i op = stays frame (goes_on values)
+    record { end = ends.Next; frame = switched frame (operand i.args 1) (argument_word (operand i.args 2)); values = values }
+controlled frame values i op = stays frame (ran_on values)
 
 abbrev pub computed_run : List Row → List ℕ → List Val → Instruction → Ran
 computed_run rows homes values i = received homes values i (computed i.op i.round (of_variables rows homes values i.args))

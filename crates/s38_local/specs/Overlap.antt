@@ -7,14 +7,14 @@ use Rattle.s38_code.specs.declared.program.Arg.{Arg}
 use Rattle.s38_code.specs.declared.reply.Val.{Val}
 use Rattle.s38_code.specs.declared.reply.Val.TheVariants as vals
 use Rattle.s38_compute.specs.Compute.{string_given}
-use Rattle.s38_compute.specs.Written.{bytes_behind, failed}
+use Rattle.s38_compute.specs.Written.{bytes_after, failed}
 use Rattle.s38_local.specs.declared.local_end.LocalEnd.{LocalEnd}
 use Rattle.s38_local.specs.declared.local_end.LocalEnd.TheVariants as ends
 use Rattle.s38_local.specs.Local.{operand, receiver_of}
 use Rattle.s38_local.specs.Received.{Ran, bytes_received}
-use Rattle.s38_local.specs.Variables.{bytes_of, held_at, place_of, value_bytes}
+use Rattle.s38_local.specs.Variables.{argument_bytes, held_at, item_place, value_bytes}
 
--- a variable that stands there
+-- the variable that is there
 abbrev pub is_place : ℕ → Option ℕ → Bool
 is_place at None = false
 is_place at (Some place) = place == at
@@ -22,31 +22,31 @@ is_place at (Some place) = place == at
 -- one of the sources, from operand 2 on, lies there
 abbrev pub reads : List ℕ → ℕ → List Arg → Bool
 reads homes at given =
-    is_place at (place_of homes (operand given 2))
-    || (is_place at (place_of homes (operand given 3)) || is_place at (place_of homes (operand given 4)))
+    is_place at (item_place homes (operand given 2))
+    || (is_place at (item_place homes (operand given 3)) || is_place at (item_place homes (operand given 4)))
 
--- the bytes that stand there, where they are a source
+-- the bytes that are there, where they are a source
 abbrev pub own_bytes : List ℕ → List Val → ℕ → List Arg → List ℕ
 own_bytes homes values at given = if reads homes at given then value_bytes (slice_get values at) else []
 
 -- the bytes of a source, while the variable at a place is taken out
 abbrev pub bytes_past : List ℕ → ℕ → List ℕ → List Val → Option Arg → List ℕ
-bytes_past homes at own values arg = if is_place at (place_of homes arg) then own else bytes_of homes values arg
+bytes_past homes at own values arg = if is_place at (item_place homes arg) then own else argument_bytes homes values arg
 
-abbrev pub end_behind : Option Exception → LocalEnd
-end_behind None = ends.Next
-end_behind (Some x) = ends.Signal x
+abbrev pub end_after : Option Exception → LocalEnd
+end_after None = ends.Next
+end_after (Some x) = ends.Signal x
 
-abbrev pub value_behind : Op → Val → List ℕ → List ℕ → List ℕ → Val
-value_behind op (vals.Bytes into) a b c = vals.Bytes (bytes_behind into (string_given op into a b c))
-value_behind op v a b c = v
+abbrev pub value_after : Op → Val → List ℕ → List ℕ → List ℕ → Val
+value_after op (vals.Bytes into) a b c = vals.Bytes (bytes_after into (string_given op into a b c))
+value_after op v a b c = v
 
 abbrev pub end_at : Op → Val → List ℕ → List ℕ → List ℕ → LocalEnd
-end_at op (vals.Bytes into) a b c = end_behind (failed (string_given op into a b c))
+end_at op (vals.Bytes into) a b c = end_after (failed (string_given op into a b c))
 end_at op v a b c = ends.Next
 
 -- what a string instruction does
 abbrev pub string_run : List ℕ → List Val → Op → List Arg → Ran
 string_run homes values op given =
     bytes_received values (receiver_of homes given)
-    (string_given op (held_at values (receiver_of homes given)) (bytes_of homes values (operand given 2)) (bytes_of homes values (operand given 3)) (bytes_of homes values (operand given 4)))
+    (string_given op (held_at values (receiver_of homes given)) (argument_bytes homes values (operand given 2)) (argument_bytes homes values (operand given 3)) (argument_bytes homes values (operand given 4)))

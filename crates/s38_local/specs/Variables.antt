@@ -23,7 +23,7 @@ abbrev pub form_in : Option Row → Option Form
 form_in None = None
 form_in (Some row) = Some row.form
 
--- an item behind a base lies in a space
+-- an item with a base lies in a space
 abbrev pub is_based : Option Form → Bool
 is_based (Some (forms.Based base offset attr)) = true
 is_based (Some (forms.Local attr first)) = false
@@ -38,9 +38,9 @@ attr_in (Some row) = attr_of_form row.form
 -- ---- where a variable lies: all variables of a process are one list, and each declared name has a place there
 
 -- the place of an item; other operands have none
-abbrev pub place_of : List ℕ → Option Arg → Option ℕ
-place_of homes (Some (args.Item i)) = slice_get homes i
-place_of homes _ = None
+abbrev pub item_place : List ℕ → Option Arg → Option ℕ
+item_place homes (Some (args.Item i)) = slice_get homes i
+item_place homes _ = None
 
 abbrev pub value_at : List Val → Option ℕ → Option Val
 value_at values None = None
@@ -60,28 +60,28 @@ abbrev pub value_pointer : Option Val → Option Pointer
 value_pointer (Some (vals.Ptr p)) = p
 value_pointer _ = None
 
--- ---- what an argument stands for: an item, or a literal
+-- ---- what an argument means: an item, or a literal
 
-abbrev pub attr_of : List Row → Option Arg → Attr
-attr_of rows (Some (args.Item i)) = attr_in (slice_get rows i)
-attr_of rows (Some (args.Literal attr bytes)) = attr
-attr_of rows _ = attrs.Pointer
+abbrev pub argument_attr : List Row → Option Arg → Attr
+argument_attr rows (Some (args.Item i)) = attr_in (slice_get rows i)
+argument_attr rows (Some (args.Literal attr bytes)) = attr
+argument_attr rows _ = attrs.Pointer
 
-abbrev pub bytes_of : List ℕ → List Val → Option Arg → List ℕ
-bytes_of homes values (Some (args.Item i)) = value_bytes (value_of_item homes values i)
-bytes_of homes values (Some (args.Literal attr bytes)) = bytes
-bytes_of homes values _ = []
+abbrev pub argument_bytes : List ℕ → List Val → Option Arg → List ℕ
+argument_bytes homes values (Some (args.Item i)) = value_bytes (value_of_item homes values i)
+argument_bytes homes values (Some (args.Literal attr bytes)) = bytes
+argument_bytes homes values _ = []
 
-abbrev pub pointer_of : List ℕ → List Val → Option Arg → Option Pointer
-pointer_of homes values (Some (args.Item i)) = value_pointer (value_of_item homes values i)
-pointer_of homes values _ = None
+abbrev pub argument_pointer : List ℕ → List Val → Option Arg → Option Pointer
+argument_pointer homes values (Some (args.Item i)) = value_pointer (value_of_item homes values i)
+argument_pointer homes values _ = None
 
 -- ---- how a variable gets a value
 
-abbrev pub put_at : List Val → Option ℕ → Val → List Val
-put_at values None v = values
-put_at values (Some place) v = slice_set values place v
+abbrev pub value_put_at : List Val → Option ℕ → Val → List Val
+value_put_at values None v = values
+value_put_at values (Some place) v = slice_set values place v
 
--- what stands at a place
+-- the bytes at a place
 abbrev pub held_at : List Val → Option ℕ → List ℕ
 held_at values place = value_bytes (value_at values place)

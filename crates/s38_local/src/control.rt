@@ -46,7 +46,7 @@ fn call_at(frame: &mut Frame, at: u32) -> Result<LocalEnd, NoMemory>
     }
 }
 
-/// Goes on at a label, and comes back behind the instruction by the next return.
+/// Goes on at a label, and comes back after the instruction by the next return.
 pub fn call(frame: &mut Frame, label: Option<&Arg>) -> Result<LocalEnd, NoMemory>
     requires { frame.old.at + 1 < 2 ^ 64 }
     ensures end { IfOk result (λ end. end ≡ (called frame.old (option_copied label.entry)).end) }

@@ -2,11 +2,13 @@
 //! read or changed.
 #![tactic(auto)]
 
+mod branches;
 mod control;
 mod dispatch;
 mod frame;
 mod local_end;
 mod locality;
+mod numbers;
 mod operands;
 mod overlap;
 mod receivers;

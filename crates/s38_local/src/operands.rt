@@ -1,13 +1,13 @@
 ghost use Rattle.std.specs.Prelude.{◌≡◌, IfSome};
 ghost use Rattle.std.specs.Option.{option_copied, option_map};
-ghost use Rattle.s38_local.specs.Local.{number_of, operand, receiver_of, whole_of, word_of};
-ghost use Rattle.s38_local.specs.Variables.{attr_in, attr_of, attr_of_form, bytes_of, form_in, held_at, place_of, pointer_of, value_at, value_bytes, value_of_item, value_pointer};
+ghost use Rattle.s38_local.specs.Local.{argument_number, argument_whole, argument_word, operand, receiver_of};
+ghost use Rattle.s38_local.specs.Variables.{argument_attr, argument_bytes, argument_pointer, attr_in, attr_of_form, form_in, held_at, item_place, value_at, value_bytes, value_of_item, value_pointer};
 
 use s38_base::{Attr, HeldPointer, Pointer};
 use s38_code::{Arg, Form, Row, Val};
 use s38_decimal::{Dec, read_scalar};
 
-/// What a declaration stands for.
+/// What a name is declared as.
 pub fn form_in(row: Option<&Row>) -> Option<&Form>
     ensures { option_copied result ≡ form_in (option_copied row.entry) }
 {
@@ -48,7 +48,7 @@ pub fn operand(args: &[Arg], k: usize) -> Option<&Arg>
 
 /// The attribute of an item or a literal.
 pub fn attr_of(rows: &[Row], arg: Option<&Arg>) -> Attr
-    ensures { result ≡ attr_of rows.now (option_copied arg.entry) }
+    ensures { result ≡ argument_attr rows.now (option_copied arg.entry) }
 {
     match arg {
         Some(Arg::Item(item)) => attr_in(rows.get(*item as usize)),
@@ -79,7 +79,7 @@ pub fn value_pointer(value: Option<&Val>) -> HeldPointer
 
 /// The place of an item among all variables; other operands have none.
 pub fn place_of(homes: &[usize], arg: Option<&Arg>) -> Option<usize>
-    ensures { result ≡ place_of homes.now (option_copied arg.entry) }
+    ensures { result ≡ item_place homes.now (option_copied arg.entry) }
 {
     match arg {
         Some(Arg::Item(item)) => homes.get(*item as usize).copied(),
@@ -106,7 +106,7 @@ pub fn value_of_item<'a>(homes: &[usize], values: &'a [Val], item: usize) -> Opt
 
 /// The bytes of an item or a literal.
 pub fn bytes_of<'a>(homes: &[usize], values: &'a [Val], arg: Option<&'a Arg>) -> &'a [u8]
-    ensures { result.now ≡ bytes_of homes.now values.now (option_copied arg.entry) }
+    ensures { result.now ≡ argument_bytes homes.now values.now (option_copied arg.entry) }
 {
     match arg {
         Some(Arg::Item(item)) => value_bytes(value_of_item(homes, values, *item as usize)),
@@ -117,7 +117,7 @@ pub fn bytes_of<'a>(homes: &[usize], values: &'a [Val], arg: Option<&'a Arg>) ->
 
 /// The pointer of an item.
 pub fn pointer_of(homes: &[usize], values: &[Val], arg: Option<&Arg>) -> Option<Pointer>
-    ensures { result ≡ pointer_of homes.now values.now (option_copied arg.entry) }
+    ensures { result ≡ argument_pointer homes.now values.now (option_copied arg.entry) }
 {
     match arg {
         Some(Arg::Item(item)) => value_pointer(value_of_item(homes, values, *item as usize)).get(),
@@ -133,8 +133,8 @@ fn scalar_of<'a>(
     values: &'a [Val],
     arg: Option<&'a Arg>,
 ) -> (Attr, &'a [u8])
-    ensures attr { result.0 ≡ attr_of rows.now (option_copied arg.entry) }
-    ensures bytes { result.1.now ≡ bytes_of homes.now values.now (option_copied arg.entry) }
+    ensures attr { result.0 ≡ argument_attr rows.now (option_copied arg.entry) }
+    ensures bytes { result.1.now ≡ argument_bytes homes.now values.now (option_copied arg.entry) }
 {
     match arg {
         Some(Arg::Item(item)) => (
@@ -149,8 +149,8 @@ fn scalar_of<'a>(
 /// The number of an item or a literal; None where its bytes have no value.
 #[inline(always)]
 pub fn number_of(rows: &[Row], homes: &[usize], values: &[Val], arg: Option<&Arg>) -> Option<Dec>
-    ensures units { option_map (λ d. d.units) result ≡ number_of rows.now homes.now values.now (option_copied arg.entry) }
-    ensures attr { IfSome result (λ d. d.attr ≡ attr_of rows.now (option_copied arg.entry)) }
+    ensures units { option_map (λ d. d.units) result ≡ argument_number rows.now homes.now values.now (option_copied arg.entry) }
+    ensures attr { IfSome result (λ d. d.attr ≡ argument_attr rows.now (option_copied arg.entry)) }
 {
     let (attr, bytes) = scalar_of(rows, homes, values, arg);
     read_scalar(attr, bytes).ok()
@@ -159,8 +159,8 @@ pub fn number_of(rows: &[Row], homes: &[usize], values: &[Val], arg: Option<&Arg
 /// The attribute of an item or a literal, and the place of an item.
 #[inline(always)]
 pub fn target_of(rows: &[Row], homes: &[usize], arg: Option<&Arg>) -> (Attr, Option<usize>)
-    ensures attr { result.0 ≡ attr_of rows.now (option_copied arg.entry) }
-    ensures place { result.1 ≡ place_of homes.now (option_copied arg.entry) }
+    ensures attr { result.0 ≡ argument_attr rows.now (option_copied arg.entry) }
+    ensures place { result.1 ≡ item_place homes.now (option_copied arg.entry) }
 {
     match arg {
         Some(Arg::Item(item)) => {
@@ -179,7 +179,7 @@ pub fn receiver_of(homes: &[usize], args: &[Arg]) -> Option<usize>
     place_of(homes, operand(args, 1))
 }
 
-/// The bytes that stand at a place.
+/// The bytes that are at a place.
 pub fn held_at(values: &[Val], place: Option<usize>) -> &[u8]
     ensures { result.now ≡ held_at values.now place }
 {
@@ -188,7 +188,7 @@ pub fn held_at(values: &[Val], place: Option<usize>) -> &[u8]
 
 /// A word of the row: a relation, or a kind of pointer.
 pub fn word_of(arg: Option<&Arg>) -> u32
-    ensures { result ≡ word_of (option_copied arg.entry) }
+    ensures { result ≡ argument_word (option_copied arg.entry) }
 {
     match arg {
         Some(Arg::Word(word)) => *word,
@@ -198,7 +198,7 @@ pub fn word_of(arg: Option<&Arg>) -> u32
 
 /// A whole literal.
 pub fn whole_of(arg: Option<&Arg>) -> i64
-    ensures { result ≡ whole_of (option_copied arg.entry) }
+    ensures { result ≡ argument_whole (option_copied arg.entry) }
 {
     match arg {
         Some(Arg::Whole(number)) => *number,

@@ -1,9 +1,10 @@
 ghost use Rattle.std.specs.Prelude.{◌≡◌, ◌<◌, ◌==◌, Some, IsTrue, if◌then◌else◌, length};
 ghost use Rattle.std.specs.Option.{option_copied};
 ghost use Rattle.std.specs.Result.{ForOk};
-ghost use Rattle.s38_base.specs.Scalar.{fits, image_of, length_of};
-ghost use Rattle.s38_local.specs.Received.{branch_end, bytes_put, jump_to, jumps, number_put, number_received, pointer_received, with_bytes};
-ghost use Rattle.s38_local.specs.Variables.{put_at};
+ghost use Rattle.s38_base.specs.Scalar.{fits, scalar_image};
+ghost use Rattle.s38_base.specs.Attributes.{length_of};
+ghost use Rattle.s38_local.specs.Received.{branch_end, bytes_put, jump_to, jumps, number_put, number_received, pointer_received, value_with_bytes};
+ghost use Rattle.s38_local.specs.Variables.{value_put_at};
 ghost use Rattle.s38_code.specs.declared.reply.Val.{Val};
 
 use crate::local_end::LocalEnd;
@@ -16,7 +17,7 @@ use std::mem;
 #[inline(always)]
 fn write_held(bytes: &mut Bytes, attr: Attr, units: i128)
     requires { IsTrue (fits attr units) }
-    ensures { bytes.new ≡ (if length bytes.old == length_of attr then image_of attr units else bytes.old) }
+    ensures { bytes.new ≡ (if length bytes.old == length_of attr then scalar_image attr units else bytes.old) }
 {
     if bytes.len() != attr.length() as usize {
         return;
@@ -72,7 +73,7 @@ pub fn receive_number(
 }
 
 fn pointer_put(values: &mut [Val], to: Option<usize>, pointer: Pointer)
-    ensures { values.new ≡ put_at values.old to (Val.Ptr (Some pointer)) }
+    ensures { values.new ≡ value_put_at values.old to (Val.Ptr (Some pointer)) }
 {
     match to {
         Some(at) => {
@@ -86,7 +87,7 @@ fn pointer_put(values: &mut [Val], to: Option<usize>, pointer: Pointer)
 
 /// The value, with these bytes where it holds some.
 fn with_bytes(value: Val, bytes: Bytes) -> Val
-    ensures { result ≡ with_bytes bytes value }
+    ensures { result ≡ value_with_bytes bytes value }
 {
     match value {
         Val::Bytes(_) => Val::Bytes(bytes),

@@ -1,8 +1,8 @@
 //! Short ways to operands: variables and parameters that hold packed numbers of up to 18 digits, and such literals.
 ghost use Rattle.std.specs.Prelude.{◌≡◌, ◌<◌, ◌^◌, IfSome, Some, unsigned_abs};
 ghost use Rattle.std.specs.Option.{option_copied};
-ghost use Rattle.s38_local.specs.Local.{number_of};
-ghost use Rattle.s38_local.specs.Variables.{attr_in, attr_of, bytes_of, place_of, value_at, value_bytes};
+ghost use Rattle.s38_local.specs.Local.{argument_number};
+ghost use Rattle.s38_local.specs.Variables.{argument_attr, argument_bytes, attr_in, item_place, value_at, value_bytes};
 
 use s38_base::Attr;
 use s38_code::{Arg, Form, Row, Val};
@@ -36,8 +36,8 @@ fn own_bytes(values: &[Val], at: usize) -> Option<&[u8]>
 /// The attribute and the place of a variable or a parameter.
 #[inline(always)]
 pub fn own_place(rows: &[Row], homes: &[usize], arg: Option<&Arg>) -> Option<(Attr, usize)>
-    ensures attr { IfSome result (λ place. place.0 ≡ attr_of rows.now (option_copied arg.entry)) }
-    ensures place { IfSome result (λ place. place_of homes.now (option_copied arg.entry) ≡ Some place.1) }
+    ensures attr { IfSome result (λ place. place.0 ≡ argument_attr rows.now (option_copied arg.entry)) }
+    ensures place { IfSome result (λ place. item_place homes.now (option_copied arg.entry) ≡ Some place.1) }
 {
     match arg {
         Some(Arg::Item(item)) => {
@@ -53,8 +53,8 @@ pub fn own_place(rows: &[Row], homes: &[usize], arg: Option<&Arg>) -> Option<(At
 /// The number of a variable, a parameter or a literal, where it is short.
 #[inline(always)]
 pub fn short_of(rows: &[Row], homes: &[usize], values: &[Val], arg: Option<&Arg>) -> Option<Dec>
-    ensures units { IfSome result (λ d. number_of rows.now homes.now values.now (option_copied arg.entry) ≡ Some d.units) }
-    ensures attr { IfSome result (λ d. d.attr ≡ attr_of rows.now (option_copied arg.entry)) }
+    ensures units { IfSome result (λ d. argument_number rows.now homes.now values.now (option_copied arg.entry) ≡ Some d.units) }
+    ensures attr { IfSome result (λ d. d.attr ≡ argument_attr rows.now (option_copied arg.entry)) }
     ensures few { IfSome result (λ d. unsigned_abs d.units < 10 ^ 18) }
 {
     match arg {

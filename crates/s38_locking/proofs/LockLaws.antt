@@ -5,8 +5,8 @@ use Rattle.s38_locks.specs.declared.fault.LockFault.TheVariants as faults
 use Rattle.s38_locks.specs.Locks.{Lock, hindrance, is_held, without_lock}
 use Rattle.s38_locks.specs.Refusals.{in_the_way, transfer_refusal, unlock_refusal}
 use Rattle.s38_code.specs.declared.operand.Operand.{Operand}
-use Rattle.s38_rules.specs.Locking.{locks_at, of_lock_fault, state_asked, taker, unlock_fails, xfrlock_fails}
-use Rattle.s38_rules.specs.State.{State}
+use Rattle.s38_rules.specs.families.Locking.{locks_at, of_lock_fault, state_asked, taker, unlock_fails, xfrlock_fails}
+use Rattle.s38_rules.specs.state.State.{State}
 use Rattle.s38_rules.proofs.RuleLaws.{first_none}
 
 unlock_by : (b : Bool) → of_lock_fault (cond b None (Some faults.NotHeld)) ≡ None → cond b None (Some faults.NotHeld) ≡ None

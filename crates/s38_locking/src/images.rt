@@ -1,6 +1,6 @@
 //! The locks of an object, as bytes.
 ghost use Rattle.std.specs.Prelude.{◌≡◌, ◌++◌, IfOk};
-ghost use Rattle.s38_rules.specs.Locking.{lock_image, locks_image};
+ghost use Rattle.s38_rules.specs.families.Locking.{lock_image, locks_image};
 
 use s38_base::{Bytes, LockState, NoMemory};
 use s38_locks::rank;

@@ -1,7 +1,7 @@
 //! The job to which a lock is handed on.
 ghost use Rattle.std.specs.Prelude.{◌≡◌, position};
 ghost use Rattle.std.specs.Option.{option_copied};
-ghost use Rattle.s38_rules.specs.Locking.{is_going_in, is_job, may_take, numbered, process_named, taker};
+ghost use Rattle.s38_rules.specs.families.Locking.{is_going_in, is_job_named, may_take, process_named, process_number_of, taker};
 
 use s38_base::Name;
 use s38_code::Operand;
@@ -12,7 +12,7 @@ use s38_rules::ProcessEntry;
 
 /// The place of the job of a name.
 fn place_of_job(entries: &[ProcessEntry], name: &Name) -> Option<usize>
-    ensures { result ≡ position (is_job name.now) entries.now }
+    ensures { result ≡ position (is_job_named name.now) entries.now }
 {
     entries
         .iter()
@@ -21,7 +21,7 @@ fn place_of_job(entries: &[ProcessEntry], name: &Name) -> Option<usize>
 
 /// The number of the process at a place, 0 for none.
 fn numbered(at: Option<usize>) -> u32
-    ensures { result ≡ numbered at }
+    ensures { result ≡ process_number_of at }
 {
     match at {
         None => 0,

@@ -1,10 +1,10 @@
 //! Locks: granted, given up, handed on to another job, listed.
-ghost use Rattle.s38_rules.specs.State.{State};
-ghost use Rattle.s38_rules.specs.Changes.{done};
+ghost use Rattle.s38_rules.specs.state.State.{State};
+ghost use Rattle.s38_rules.specs.families.Changes.{done};
 ghost use Rattle.std.specs.Prelude.{◌≡◌, None, Some, IfOk, OnOk, OnErr};
 ghost use Rattle.s38_base.specs.Signals.{first};
 ghost use Rattle.s38_locks.specs.Refusals.{transfer_refusal, unlock_refusal};
-ghost use Rattle.s38_rules.specs.Locking.{lock_changes, lock_fails, lock_needs, lock_right, locks_at, locks_row, matobjlk_gives, matobjlk_needs, of_lock_fault, state_asked, state_of, unlock_changes, unlock_fails, unlock_needs, xfrlock_changes, xfrlock_fails};
+ghost use Rattle.s38_rules.specs.families.Locking.{lock_changes, lock_fails, lock_needs, lock_right, lock_state_of, locks_at, locks_row, matobjlk_gives, matobjlk_needs, of_lock_fault, state_asked, unlock_changes, unlock_fails, unlock_needs, xfrlock_changes, xfrlock_fails};
 
 use crate::images::locks_image;
 use crate::jobs::{may_take, taker};
@@ -21,7 +21,7 @@ use std::alloc::Global;
 // ---- what the operands say
 
 fn state_of(word: u32) -> LockState
-    ensures { result ≡ state_of word }
+    ensures { result ≡ lock_state_of word }
 {
     if word == 0 {
         LockState::Lsrd
@@ -75,7 +75,7 @@ fn lock_right(state: LockState) -> Rights
 }
 
 /// RETRIEVE where readers share the object, else UPDATE.
-#[tactic(auto, unfolding(s38_rules::specs::Locking::lock_needs))]
+#[tactic(auto, unfolding(s38_rules::specs::families::Locking::lock_needs))]
 fn lock_needs(operands: &[Operand]) -> Needs
     ensures { result ≡ lock_needs operands.now }
 {
@@ -83,7 +83,7 @@ fn lock_needs(operands: &[Operand]) -> Needs
 }
 
 /// No lock of another process is in the way, and the object may have one more.
-#[tactic(auto, unfolding(s38_rules::specs::Locking::lock_fails))]
+#[tactic(auto, unfolding(s38_rules::specs::families::Locking::lock_fails))]
 fn lock_fails(
     world: &Core<Objects, Profiles>,
     process: u32,
@@ -118,7 +118,7 @@ fn lock(
 // ---- UNLOCK
 
 /// Who holds a lock gives it up without a right.
-#[tactic(auto, unfolding(s38_rules::specs::Locking::unlock_needs))]
+#[tactic(auto, unfolding(s38_rules::specs::families::Locking::unlock_needs))]
 fn unlock_needs() -> Needs
     ensures { result ≡ unlock_needs }
 {
@@ -144,7 +144,7 @@ fn not_held(
 }
 
 /// The process holds such a lock.
-#[tactic(auto, unfolding(s38_rules::specs::Locking::unlock_fails))]
+#[tactic(auto, unfolding(s38_rules::specs::families::Locking::unlock_fails))]
 fn unlock_fails(
     world: &Core<Objects, Profiles>,
     process: u32,
@@ -190,7 +190,7 @@ fn not_given(
 }
 
 /// The process holds such a lock, the job is another's that goes on, and no other lock is in its way.
-#[tactic(auto, unfolding(s38_rules::specs::Locking::xfrlock_fails))]
+#[tactic(auto, unfolding(s38_rules::specs::families::Locking::xfrlock_fails))]
 fn xfrlock_fails(
     world: &Core<Objects, Profiles>,
     process: u32,
@@ -228,7 +228,7 @@ fn xfrlock(world: &mut Core<Objects, Profiles>, process: u32, operands: &[Operan
 // ---- MATOBJLK
 
 /// RETRIEVE on the object.
-#[tactic(auto, unfolding(s38_rules::specs::Locking::matobjlk_needs))]
+#[tactic(auto, unfolding(s38_rules::specs::families::Locking::matobjlk_needs))]
 fn matobjlk_needs() -> Needs
     ensures { result ≡ matobjlk_needs }
 {
@@ -236,7 +236,7 @@ fn matobjlk_needs() -> Needs
 }
 
 /// The object's locks, cut or filled.
-#[tactic(auto, unfolding(s38_rules::specs::Locking::matobjlk_bytes))]
+#[tactic(auto, unfolding(s38_rules::specs::families::Locking::matobjlk_bytes))]
 fn matobjlk_gives(
     alloc: Global,
     world: &Core<Objects, Profiles>,
@@ -253,7 +253,7 @@ fn matobjlk_gives(
 // ---- the family
 
 /// What an instruction of locks needs.
-#[tactic(auto, unfolding(s38_rules::specs::Locking::locks_row))]
+#[tactic(auto, unfolding(s38_rules::specs::families::Locking::locks_row))]
 pub fn needs(act: Act<'_>) -> Needs
     ensures { (s : State) → result ≡ (locks_row act.entry.request.now.op).needs s act.entry.process act.entry.depth act.entry.request.now }
 {
@@ -266,7 +266,7 @@ pub fn needs(act: Act<'_>) -> Needs
 }
 
 /// The first of its conditions that fails.
-#[tactic(auto, unfolding(s38_rules::specs::Locking::locks_row))]
+#[tactic(auto, unfolding(s38_rules::specs::families::Locking::locks_row))]
 pub fn conditions(world: &Core<Objects, Profiles>, act: Act<'_>) -> Option<Exception>
     ensures { result ≡ (locks_row act.entry.request.now.op).fails world.now act.entry.process act.entry.depth act.entry.request.now }
 {
@@ -280,7 +280,7 @@ pub fn conditions(world: &Core<Objects, Profiles>, act: Act<'_>) -> Option<Excep
 }
 
 /// The value for its receiver.
-#[tactic(auto, unfolding(s38_rules::specs::Locking::locks_row))]
+#[tactic(auto, unfolding(s38_rules::specs::families::Locking::locks_row))]
 pub fn value(
     alloc: Global,
     world: &Core<Objects, Profiles>,
@@ -295,7 +295,7 @@ pub fn value(
 }
 
 /// What it changes, where it doesn't fail; where memory is refused nothing changes.
-#[tactic(auto, unfolding(s38_rules::specs::Locking::locks_row))]
+#[tactic(auto, unfolding(s38_rules::specs::families::Locking::locks_row))]
 pub fn apply(world: &mut Core<Objects, Profiles>, act: Act<'_>) -> Result<(), NoMemory>
     requires { (locks_row act.request.now.op).fails world.old act.process act.depth act.request.now ≡ None }
     ensures ok { OnOk result (world.new ≡ done world.old act.entry.process ((locks_row act.entry.request.now.op).changes world.old act.entry.process act.entry.depth act.entry.request.now)) }

@@ -10,7 +10,7 @@ use Rattle.std.specs.declared.result.Result.TheVariants.{Ok, Err}
 use Rattle.s38_base.specs.declared.words.LockState.{LockState}
 use Rattle.s38_base.specs.declared.words.LockState.TheVariants.{Lsrd, Lsro, Lsup, Lear, Lenr}
 use Rattle.s38_locks.specs.States.{are_compatible}
-use Rattle.s38_locks.specs.Locks.{GoesBefore, IsLeast, IsOrderly, Lock, comes_later, hinders, hindrance, is_same, place, with_lock, without_lock}
+use Rattle.s38_locks.specs.Locks.{GoesBefore, IsLeast, IsOrderly, Lock, comes_later, hinders, hindrance, is_same, lock_place, with_lock, without_lock}
 use Rattle.s38_locks.specs.Refusals.{in_the_way, transfer_refusal}
 
 -- ---- places
@@ -112,16 +112,16 @@ same_both a b = grind (arith, nat_tests)
 hinders_both : (l m : Lock) → hinders m.0 m.1 l ≡ hinders l.0 l.1 m
 hinders_both l m = rw (same_both l.0 m.0, compatible_both l.1 m.1) refl
 
-ahead : (l m : Lock) (xs : List Lock) → place l ≤ place m → AllByRecursion (λ x. hinders l.0 l.1 x ≡ false) xs → AllByRecursion (GoesBefore m) xs → AllByRecursion (GoesBefore l) xs
+ahead : (l m : Lock) (xs : List Lock) → lock_place l ≤ lock_place m → AllByRecursion (λ x. hinders l.0 l.1 x ≡ false) xs → AllByRecursion (GoesBefore m) xs → AllByRecursion (GoesBefore l) xs
 ahead l m [] low free h = tt
 ahead l m (x ∷ xs) low free h =
     let high = h.0.ordered in
     (record { ordered = omega arith; compatible = free.0 }, ahead l m xs low free.1 h.1)
 
-is_later : (l m : Lock) → comes_later l m ≡ true → place l ≤ place m
+is_later : (l m : Lock) → comes_later l m ≡ true → lock_place l ≤ lock_place m
 is_later l m e = grind (arith, nat_tests)
 
-is_not_later : (l m : Lock) → comes_later l m ≡ false → place m ≤ place l
+is_not_later : (l m : Lock) → comes_later l m ≡ false → lock_place m ≤ lock_place l
 is_not_later l m e = grind (arith, nat_tests)
 
 orderly_among : (l : Lock) (xs : List Lock) → AllByRecursion (λ x. hinders l.0 l.1 x ≡ false) xs → IsOrderly xs → IsOrderly (with_lock l xs)
@@ -163,18 +163,18 @@ orderly_added (Err e) l xs ys ok err none h = rw err h
 
 -- ---- the first lock that is found is the least
 
-none_before : (p : Lock → Bool) (l : Lock) (xs : List Lock) → AllByRecursion (GoesBefore l) xs → AllByRecursion (λ x. p x ≡ true → place l ≤ place x) xs
+none_before : (p : Lock → Bool) (l : Lock) (xs : List Lock) → AllByRecursion (GoesBefore l) xs → AllByRecursion (λ x. p x ≡ true → lock_place l ≤ lock_place x) xs
 none_before p l [] h = tt
 none_before p l (x ∷ xs) h = (λ e. h.0.ordered, none_before p l xs h.1)
 
-found_least : (p : Lock → Bool) (xs : List Lock) (l : Lock) → IsOrderly xs → find p xs ≡ Some l → AllByRecursion (λ x. p x ≡ true → place l ≤ place x) xs
+found_least : (p : Lock → Bool) (xs : List Lock) (l : Lock) → IsOrderly xs → find p xs ≡ Some l → AllByRecursion (λ x. p x ≡ true → lock_place l ≤ lock_place x) xs
 found_least p [] l h e = tt
 found_least p (x ∷ xs) l h e =
     let rest = found_least p xs l h.1 in
-    elim (p x) as (λ b. p x ≡ b → cond b (Some x) (find p xs) ≡ Some l → AllByRecursion (λ y. p y ≡ true → place l ≤ place y) (x ∷ xs)) [
+    elim (p x) as (λ b. p x ≡ b → cond b (Some x) (find p xs) ≡ Some l → AllByRecursion (λ y. p y ≡ true → lock_place l ≤ lock_place y) (x ∷ xs)) [
       | true ↦ λ is q.
           let same : x ≡ l = cc in
-          subst (λ (m : Lock). AllByRecursion (λ y. p y ≡ true → place m ≤ place y) (x ∷ xs)) same (λ e. omega arith, none_before p x xs h.0)
+          subst (λ (m : Lock). AllByRecursion (λ y. p y ≡ true → lock_place m ≤ lock_place y) (x ∷ xs)) same (λ e. omega arith, none_before p x xs h.0)
       | false ↦ λ is q. (λ t. absurd (cc), rest q)
     ] refl e
 

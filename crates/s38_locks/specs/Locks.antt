@@ -11,11 +11,11 @@ abbrev pub Lock : Type 0
 Lock = ℕ × LockState
 
 -- the place of a lock in the order of process and state
-abbrev pub place : Lock → ℕ
-place lock = 5 * lock.0 + rank lock.1
+abbrev pub lock_place : Lock → ℕ
+lock_place lock = 5 * lock.0 + rank lock.1
 
 abbrev pub is_same : Lock → Lock → Bool
-is_same lock other = place other == place lock
+is_same lock other = lock_place other == lock_place lock
 
 -- whether a lock of another process is incompatible with a state that a process asks for
 abbrev pub hinders : ℕ → LockState → Lock → Bool
@@ -43,9 +43,9 @@ is_locked (lock ∷ locks) = true
 
 -- whether a lock comes later in the order of process and state
 abbrev pub comes_later : Lock → Lock → Bool
-comes_later lock other = nat_lt (place lock) (place other)
+comes_later lock other = nat_lt (lock_place lock) (lock_place other)
 
--- the locks that come later than one, where these stand in order
+-- the locks that come later than one, where these are in order
 abbrev pub later_than : Lock → List Lock → List Lock
 later_than lock locks = drop (position_or_len (comes_later lock) locks) locks
 
@@ -67,20 +67,20 @@ without_lock lock (other ∷ locks) = if is_same lock other then locks else othe
 abbrev pub without_process : ℕ → List Lock → List Lock
 without_process process locks = filter (λ lock. not (lock.0 == process)) locks
 
--- the locks stand in order of process and state
+-- the locks are in order of process and state
 abbrev pub IsInOrder : List Lock → Type 0
-IsInOrder locks = IsNonDecreasingBy place locks
+IsInOrder locks = IsNonDecreasingBy lock_place locks
 
 -- two locks in their order, which two processes may hold at once
 pub record GoesBefore (lock other : Lock) : Type 0 where
-  pub ordered : place lock ≤ place other
+  pub ordered : lock_place lock ≤ lock_place other
   pub compatible : hinders lock.0 lock.1 other ≡ false
 
--- the locks stand in their order, and no two of different processes are incompatible
+-- the locks are in their order, and no two of different processes are incompatible
 abbrev pub IsOrderly : List Lock → Type 0
 IsOrderly [] = Unit {0}
 IsOrderly (lock ∷ locks) = AllByRecursion (GoesBefore lock) locks × IsOrderly locks
 
 -- no lock that passes the test comes before this one
 pub record IsLeast (test : Lock → Bool) (lock : Lock) (locks : List Lock) : Type 0 where
-  pub least : AllByRecursion (λ other. test other ≡ true → place lock ≤ place other) locks
+  pub least : AllByRecursion (λ other. test other ≡ true → lock_place lock ≤ lock_place other) locks

@@ -2,7 +2,7 @@ ghost use Rattle.std.specs.Prelude.{◌≡◌, ◌<◌, ◌≤◌, OnOk, OnErr, 
 ghost use Rattle.std.specs.List.{position_or_len};
 ghost use Rattle.std.specs.Option.{option_copied};
 ghost use Rattle.std.specs.Vec.{vec_capacity, vec_len};
-ghost use Rattle.s38_locks.specs.Locks.{IsInOrder, IsOrderly, blocker, comes_later, hinders, hindrance, is_at, is_blocker, is_held, is_same, later_than, place, with_lock, without_lock, without_process};
+ghost use Rattle.s38_locks.specs.Locks.{IsInOrder, IsOrderly, blocker, comes_later, hinders, hindrance, is_at, is_blocker, is_held, is_same, later_than, lock_place, with_lock, without_lock, without_process};
 
 use crate::states::{are_compatible, blocks, rank};
 use s38_base::{Category, LockState, NoMemory};
@@ -11,7 +11,7 @@ use s38_base::{Category, LockState, NoMemory};
 pub type Lock = (u32, LockState);
 
 fn place(lock: Lock) -> u64
-    ensures { result ≡ place lock }
+    ensures { result ≡ lock_place lock }
 {
     5 * lock.0 as u64 + rank(lock.1) as u64
 }
@@ -28,7 +28,7 @@ fn is_blocker(lock: Lock, process: u32, category: Category) -> bool
     lock.0 != process && blocks(lock.1, category)
 }
 
-/// Where the first lock stands that comes later than one, or how many locks there are.
+/// The place of the first lock that comes later than one, or how many locks there are.
 fn first_later(locks: &[Lock], lock: Lock) -> usize
     requires { IsInOrder locks.now }
     ensures value { result ≡ position_or_len (comes_later lock) locks.now }
@@ -94,7 +94,7 @@ pub fn blocker(locks: &[Lock], process: u32, category: Category) -> Option<&Lock
     None
 }
 
-/// Where the first lock stands that does not come before one, or how many locks there are.
+/// The place of the first lock that does not come before one, or how many locks there are.
 fn first_not_before(locks: &[Lock], lock: Lock) -> usize
     requires { IsInOrder locks.now }
     ensures value { result ≡ position_or_len (λ other. not (comes_later other lock)) locks.now }
@@ -104,7 +104,7 @@ fn first_not_before(locks: &[Lock], lock: Lock) -> usize
     locks.partition_point(|other| place(*other) < at)
 }
 
-/// Whether such a lock stands there.
+/// Whether such a lock is there.
 fn is_at(locks: &[Lock], at: usize, lock: Lock) -> bool
     ensures { result ≡ is_at lock (slice_get locks.now at) }
 {
@@ -114,7 +114,7 @@ fn is_at(locks: &[Lock], at: usize, lock: Lock) -> bool
     }
 }
 
-/// Where such a lock stands first.
+/// Where the first such lock is.
 pub fn place_of(locks: &[Lock], lock: Lock) -> Option<usize>
     requires { IsInOrder locks.now }
     ensures { result ≡ position (is_same lock) locks.now }

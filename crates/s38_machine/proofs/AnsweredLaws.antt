@@ -1,4 +1,4 @@
--- A world behind an answer: rights were checked before, and then the event took effect.
+-- The world after an answer: rights were checked before, and then the event took effect.
 use Rattle.std.proofs.Common.{◌≡◌, ◌≤◌, ◌∙◌, ℕ, Bool, true, false, List, [], length, refl, sym, ap, subst}
 use Rattle.std.specs.Prelude.{OnErr, Result, Ok, Err, Some, if◌then◌else◌}
 use Rattle.s38_code.specs.Asking.{last_reply}
@@ -8,31 +8,31 @@ use Rattle.s38_code.specs.declared.event.Event.{Event}
 use Rattle.s38_code.specs.declared.event.Event.TheVariants.{Start, Act, Finish}
 use Rattle.s38_code.specs.declared.reply.Reply.TheVariants.{MustWait}
 use Rattle.s38_machine.proofs.AskingLaws.{entered_by}
-use Rattle.s38_machine.proofs.FollowedLaws.{behind_state}
+use Rattle.s38_machine.proofs.FollowedLaws.{world_after_state}
 use Rattle.s38_machine.specs.Answered.{IsAnsweredWorld, IsCheckedWorld, WorldRun, entered, run_of, world_by}
-use Rattle.s38_machine.specs.Stored.{anew_by, kept_anew}
+use Rattle.s38_machine.specs.Stored.{kept_anew, must_persist_by}
 use Rattle.s38_rules.specs.declared.verdict.Verdict.{Verdict}
 use Rattle.s38_rules.specs.declared.verdict.Verdict.TheVariants.{Permit, Wait, Refuse}
-use Rattle.s38_rules.specs.Forcing.{Forced}
-use Rattle.s38_rules.specs.Legal.{after, after_by}
-use Rattle.s38_rules.specs.State.{State, waits}
-use Rattle.s38_rules.specs.Step.{Stepped, awake_verdict, by_verdict, by_waiting, step, verdict_of}
+use Rattle.s38_rules.specs.store.Forcing.{Forced}
+use Rattle.s38_rules.specs.step.Legal.{after, after_by}
+use Rattle.s38_rules.specs.state.State.{State, waits}
+use Rattle.s38_rules.specs.step.Step.{Stepped, awake_verdict, by_verdict, by_waiting, step, verdict_of}
 use Rattle.s38_verdicts.specs.Asked.{checked_world, checks_of, depth_of, rows_for}
-use Rattle.s38_verified.proofs.AskLaws.{checked_state}
-use Rattle.s38_verified.specs.declared.found.Visits.{Visits}
-use Rattle.s38_verified.specs.Following.{behind}
-use Rattle.s38_verified.specs.Places.{AreChecked, RisesBy}
-use Rattle.s38_verified.specs.Worlds.{WorldState}
+use Rattle.s38_rights_cache.proofs.AskLaws.{checked_state}
+use Rattle.s38_rights_cache.specs.declared.found.Visits.{Visits}
+use Rattle.s38_rights_cache.specs.Following.{world_after_event}
+use Rattle.s38_rights_cache.specs.Places.{AreChecked, RisesBy}
+use Rattle.s38_rights_cache.specs.Worlds.{WorldState}
 
 -- ---- what follows a verdict
 
 by_state : (v : Verdict) (w : WorldState) (p : ℕ) (e : Event) (t : State) → (world_by v w p e t).state ≡ t
-by_state Permit w p e t = behind_state w p e t
+by_state Permit w p e t = world_after_state w p e t
 by_state Wait w p e t = refl
 by_state (Refuse x) w p e t = refl
 
-behind_beside : (w : WorldState) (visits : Visits) (p : ℕ) (e : Event) (t : State) → behind (record w { visits = visits }) p e t ≡ record (behind w p e t) { visits = visits }
-unfolding behind
+behind_beside : (w : WorldState) (visits : Visits) (p : ℕ) (e : Event) (t : State) → world_after_event (record w { visits = visits }) p e t ≡ record (world_after_event w p e t) { visits = visits }
+unfolding world_after_event
 behind_beside w visits p Start t = refl
 behind_beside w visits p (Act depth request) t = refl
 behind_beside w visits p (Finish cause) t = refl
@@ -69,9 +69,9 @@ judged_verdict m x p e v judged = ap (λ (s : State). awake_verdict s p e) (judg
 pub judged_last : (m x : WorldRun) (p : ℕ) (e : Event) (v : Verdict) → IsJudged m x p e v → p ≤ length m.world.state.processes → p ≤ length x.world.state.processes
 judged_last m x p e v judged last = subst (λ (s : State). p ≤ length s.processes) (sym (judged_state m x p e v judged)) last
 
--- what the store is to keep anew is that of the state in which the verdict was given
-pub judged_anew : (m x : WorldRun) (p : ℕ) (e : Event) (v : Verdict) (all : List Forced) → IsJudged m x p e v → all ≡ anew_by m.world.state p e v → all ≡ anew_by x.world.state p e v
-judged_anew m x p e v all judged are = are ∙ ap (λ (s : State). anew_by s p e v) (sym (judged_state m x p e v judged))
+-- what must persist is that of the state in which the verdict was given
+pub judged_anew : (m x : WorldRun) (p : ℕ) (e : Event) (v : Verdict) (all : List Forced) → IsJudged m x p e v → all ≡ must_persist_by m.world.state p e v → all ≡ must_persist_by x.world.state p e v
+judged_anew m x p e v all judged are = are ∙ ap (λ (s : State). must_persist_by s p e v) (sym (judged_state m x p e v judged))
 
 -- the event was entered
 pub answered_run : (m x n : WorldRun) (p : ℕ) (e : Event) (v : Verdict) → waits m.world.state p ≡ false → IsJudged m x p e v
@@ -104,14 +104,14 @@ pub answered_reply : (m x : WorldRun) (p : ℕ) (e : Event) (v : Verdict) → wa
 answered_reply m x p e v awake judged =
     ap (λ (made : Stepped). made.reply) (by_same m.world.state x.world.state p e v awake judged.verdict (judged_state m x p e v judged))
 
--- what the store keeps anew
-pub answered_anew : (s : State) (p : ℕ) (e : Event) (v : Verdict) → waits s p ≡ false → v ≡ awake_verdict s p e → anew_by s p e v ≡ kept_anew s p e
+-- what must persist
+pub answered_anew : (s : State) (p : ℕ) (e : Event) (v : Verdict) → waits s p ≡ false → v ≡ awake_verdict s p e → must_persist_by s p e v ≡ kept_anew s p e
 unfolding verdict_of
 answered_anew s p e v awake is =
     let told : verdict_of s p e ≡ awake_verdict s p e = ap (λ (b : Bool). if b then Wait else awake_verdict s p e) awake in
-    ap (anew_by s p e) (is ∙ sym told)
+    ap (must_persist_by s p e) (is ∙ sym told)
 
--- the world behind it
+-- the world after it
 answered_by : (w x t : WorldState) (p : ℕ) (e : Event) (v : Verdict) → waits w.state p ≡ false → AreChecked w p (depth_of e) (checks_of w.state p e) x → v ≡ awake_verdict w.state p e
     → t ≡ world_by v x p e (by_verdict x.state p e v).state → IsAnsweredWorld w p e t
 answered_by w x t p e v awake checked is led =
@@ -145,24 +145,15 @@ pub waits_reply : (s : State) (p : ℕ) (e : Event) → waits s p ≡ true → (
 unfolding step
 waits_reply s p e still = ap (λ (b : Bool). (by_waiting b s p e).reply) still
 
--- the store keeps nothing anew
+-- nothing must persist
 pub waits_anew : (s : State) (p : ℕ) (e : Event) → waits s p ≡ true → kept_anew s p e ≡ []
 unfolding verdict_of
-waits_anew s p e still = ap (λ (b : Bool). anew_by s p e (if b then Wait else awake_verdict s p e)) still
-
-pub waits_world : (w : WorldState) (p : ℕ) (e : Event) → waits w.state p ≡ true → IsAnsweredWorld w p e w
-waits_world w p e still = record {
-  world = subst (λ (b : Bool). w ≡ record (if b then w else world_by (awake_verdict w.state p e) (checked_world w p e) p e (step w.state p e).state) { visits = w.visits }) (sym still) refl;
-  visits = subst (λ (b : Bool). RisesBy w.visits (if b then 0 else rows_for w p e) w.visits) (sym still) refl;
-}
+waits_anew s p e still = ap (λ (b : Bool). must_persist_by s p e (if b then Wait else awake_verdict s p e)) still
 
 -- ---- no answer
 
 pub checked_run : (m x : WorldRun) (p : ℕ) (e : Event) (v : Verdict) → IsJudged m x p e v → run_of x ≡ run_of m
 checked_run m x p e v judged = ap run_of judged.same ∙ ap (λ (s : State). record (run_of m) { state = s }) (judged_state m x p e v judged)
-
-pub left_world : (m x : WorldRun) (p : ℕ) (e : Event) (v : Verdict) → IsJudged m x p e v → IsCheckedWorld m.world p e x.world
-left_world m x p e v judged = record { world = judged.checked.places; visits = judged.checked.visits }
 
 -- the same where an error is handed on
 pub handed_on : {A B : Type 0} (r : Result A B) (P : Type 0) → P → OnErr r P

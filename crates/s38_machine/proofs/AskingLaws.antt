@@ -5,7 +5,7 @@ use Rattle.std.specs.Option.{option_map}
 use Rattle.s38_code.specs.declared.entry.Entry.{Entry}
 use Rattle.s38_code.specs.declared.event.Event.{Event}
 use Rattle.s38_code.specs.Asking.{last_reply}
-use Rattle.s38_rules.specs.Legal.{Run, after}
+use Rattle.s38_rules.specs.step.Legal.{Run, after}
 
 at_end : {A : Type 0} (xs : List A) (x : A) → slice_get (xs ++ x ∷ []) (length xs) ≡ Some x
 at_end [] x = refl

@@ -4,14 +4,14 @@ use Rattle.std.proofs.lemmas.Bool.Decides.{nat_tests}
 use Rattle.std.proofs.lemmas.List.Elements.{All-head, All-tail}
 use Rattle.std.specs.Prelude.{All, Some, is_some, nat_lt, slice_get}
 use Rattle.s38_code.specs.declared.deck.Job.{Job}
-use Rattle.s38_objects.specs.Lawful.{IsLawful, number_of}
+use Rattle.s38_objects.specs.Lawful.{IsObjectMap, number_of}
 use Rattle.s38_rules.proofs.ChargeLaws.{own_pages, pages_within, some_page}
-use Rattle.s38_rules.specs.Held.{Held, charge_in, has_number, object_in}
-use Rattle.s38_rules.specs.Opening.{process_entries}
-use Rattle.s38_rules.specs.State.{State}
+use Rattle.s38_rules.specs.state.Held.{Held, charge_in, has_number, object_in}
+use Rattle.s38_rules.specs.state.Opening.{process_entries}
+use Rattle.s38_rules.specs.state.State.{State}
 use Rattle.s38_rules.specs.declared.object.Object.{Object}
 use Rattle.s38_rules.specs.declared.process.ProcessEntry.{ProcessEntry}
-use Rattle.s38_verified.specs.Places.{AreOwned, NobodyLives, is_live_in}
+use Rattle.s38_rights_cache.specs.Places.{AreOwned, NobodyLives, is_live_in}
 
 none_live : (jobs : List Job) (k : ℕ) → is_live_in (slice_get (process_entries jobs) k) ≡ false
 none_live [] k = refl
@@ -46,7 +46,7 @@ below_by next owner charge unowned pays = by (nat_lt owner next) refl
         absurd (omega (arith, unowned high, pays))
 
 -- owners pay, and a number that was not given pays for nothing
-pub owned_by : (h : Held) → IsLawful h → ((user : ℕ) → h.next ≤ user → charge_in h.objects user ≡ 0) → AreOwned h
+pub owned_by : (h : Held) → IsObjectMap h → ((user : ℕ) → h.next ≤ user → charge_in h.objects user ≡ 0) → AreOwned h
 owned_by h lawful unowned = record {
   numbers = λ n there. below_in h.next n h.objects lawful.given there;
   owners = λ n o e. below_by h.next o.owner.0 (charge_in h.objects o.owner.0) (unowned o.owner.0) (omega (arith, pages_within n o.owner.0 o h.objects e, own_pages o, some_page o.body));

@@ -5,10 +5,10 @@ use Rattle.s38_code.specs.declared.event.Event.{Event}
 use Rattle.s38_code.specs.declared.event.Event.TheVariants.{Act}
 use Rattle.s38_code.specs.declared.event.Request.{Request}
 use Rattle.s38_code.specs.declared.reply.Val.{Val}
-use Rattle.s38_rules.specs.State.{State}
-use Rattle.s38_rules.specs.Computing.{receiver_at}
-use Rattle.s38_rules.specs.Operands.{delivered}
-use Rattle.s38_rules.specs.Rows.{row}
+use Rattle.s38_rules.specs.state.State.{State}
+use Rattle.s38_rules.specs.families.Computing.{receiver_at}
+use Rattle.s38_rules.specs.ask.Receivers.{delivered}
+use Rattle.s38_rules.specs.families.Rows.{row}
 use Rattle.s38_machine.specs.Events.{GoesAsThatOf}
 
 pub of_act : (w : State) (p depth : ℕ) (request : Request) (event : Event) (value : Option Val)

@@ -4,51 +4,51 @@ use Rattle.std.specs.Prelude.{IfSome, None, Option, Some}
 use Rattle.s38_code.specs.declared.event.Event.{Event}
 use Rattle.s38_code.specs.declared.event.Event.TheVariants.{Start, Act, Finish}
 use Rattle.s38_machine.specs.Stored.{FitsStore}
-use Rattle.s38_object_laws.specs.Well.{AreWell}
-use Rattle.s38_room.specs.Following.{Fits}
+use Rattle.s38_laws_objects.specs.Well.{AreWell}
+use Rattle.s38_space_rules.specs.Following.{Fits}
 use Rattle.s38_rules.specs.declared.verdict.Verdict.TheVariants.{Permit}
-use Rattle.s38_rules.specs.Effect.{effect_of}
-use Rattle.s38_rules.specs.Room.{Room}
-use Rattle.s38_rules.specs.State.{State}
-use Rattle.s38_rules.specs.Step.{awake, awake_verdict}
-use Rattle.s38_rules.specs.Storing.{stored}
-use Rattle.s38_verified.proofs.ChangeLaws.{same_steady}
-use Rattle.s38_verified.proofs.EventLaws.{event_steady}
-use Rattle.s38_verified.proofs.SameLaws.{same_held}
-use Rattle.s38_verified.specs.Following.{behind}
-use Rattle.s38_verified.specs.Places.{IsSteady}
-use Rattle.s38_verified.specs.Worlds.{WorldState}
+use Rattle.s38_rules.specs.step.Effect.{effect_of}
+use Rattle.s38_rules.specs.store.Room.{Room}
+use Rattle.s38_rules.specs.state.State.{State}
+use Rattle.s38_rules.specs.step.Step.{awake, awake_verdict}
+use Rattle.s38_rules.specs.store.Storing.{stored}
+use Rattle.s38_rights_cache.proofs.ChangeLaws.{same_steady}
+use Rattle.s38_rights_cache.proofs.EventLaws.{event_steady}
+use Rattle.s38_rights_cache.proofs.SameLaws.{same_held}
+use Rattle.s38_rights_cache.specs.Following.{world_after_event}
+use Rattle.s38_rights_cache.specs.Places.{IsSteady}
+use Rattle.s38_rights_cache.specs.Worlds.{WorldState}
 
 -- the state is that to which the event led
-pub behind_state : (w : WorldState) (p : ℕ) (e : Event) (t : State) → (behind w p e t).state ≡ t
-unfolding behind
-behind_state w p Start t = refl
-behind_state w p (Act depth request) t = refl
-behind_state w p (Finish cause) t = refl
+pub world_after_state : (w : WorldState) (p : ℕ) (e : Event) (t : State) → (world_after_event w p e t).state ≡ t
+unfolding world_after_event
+world_after_state w p Start t = refl
+world_after_state w p (Act depth request) t = refl
+world_after_state w p (Finish cause) t = refl
 
 -- a world in which an event took effect, and then counts followed
 pub took_up : (w v y : WorldState) (p : ℕ) (e : Event) (t : State) → v ≡ w → t ≡ awake (stored v.state p e (effect_of v.state p e).state)
-    → ((s : State) → y ≡ behind (record v { state = s }) p e t) → y ≡ behind w p e (awake (stored w.state p e (effect_of w.state p e).state))
+    → ((s : State) → y ≡ world_after_event (record v { state = s }) p e t) → y ≡ world_after_event w p e (awake (stored w.state p e (effect_of w.state p e).state))
 took_up w v y p e t is led follows =
-    follows v.state ∙ ap (λ (u : State). behind v p e u) led
-    ∙ ap (λ (z : WorldState). behind z p e (awake (stored z.state p e (effect_of z.state p e).state))) is
+    follows v.state ∙ ap (λ (u : State). world_after_event v p e u) led
+    ∙ ap (λ (z : WorldState). world_after_event z p e (awake (stored z.state p e (effect_of z.state p e).state))) is
 
-took_to : (v y : WorldState) (p : ℕ) (e : Event) (t : State) → ((s : State) → y ≡ behind (record v { state = s }) p e t) → y.state ≡ t
-took_to v y p e t follows = ap (λ (z : WorldState). z.state) (follows v.state) ∙ behind_state v p e t
+took_to : (v y : WorldState) (p : ℕ) (e : Event) (t : State) → ((s : State) → y ≡ world_after_event (record v { state = s }) p e t) → y.state ≡ t
+took_to v y p e t follows = ap (λ (z : WorldState). z.state) (follows v.state) ∙ world_after_state v p e t
 
 pub took_state : (w v y : WorldState) (p : ℕ) (e : Event) (t : State) → v ≡ w → t ≡ awake (stored v.state p e (effect_of v.state p e).state)
-    → ((s : State) → y ≡ behind (record v { state = s }) p e t) → y.state ≡ awake (stored w.state p e (effect_of w.state p e).state)
-took_state w v y p e t is led follows = ap (λ (z : WorldState). z.state) (took_up w v y p e t is led follows) ∙ behind_state w p e _
+    → ((s : State) → y ≡ world_after_event (record v { state = s }) p e t) → y.state ≡ awake (stored w.state p e (effect_of w.state p e).state)
+took_state w v y p e t is led follows = ap (λ (z : WorldState). z.state) (took_up w v y p e t is led follows) ∙ world_after_state w p e _
 
-pub took_kept : (w v y : WorldState) (p : ℕ) (e : Event) (t : State) → v ≡ w → ((s : State) → y ≡ behind (record v { state = s }) p e t) → length t.processes ≡ length v.state.processes
+pub took_kept : (w v y : WorldState) (p : ℕ) (e : Event) (t : State) → v ≡ w → ((s : State) → y ≡ world_after_event (record v { state = s }) p e t) → length t.processes ≡ length v.state.processes
     → length y.state.processes ≡ length w.state.processes
 took_kept w v y p e t is follows kept = ap (λ (s : State). length s.processes) (took_to v y p e t follows) ∙ kept ∙ ap (λ (z : WorldState). length z.state.processes) is
 
-pub took_fits : (w v y : WorldState) (p : ℕ) (e : Event) (t : State) → v ≡ w → ((s : State) → y ≡ behind (record v { state = s }) p e t) → FitsStore t → FitsStore y.state
+pub took_fits : (w v y : WorldState) (p : ℕ) (e : Event) (t : State) → v ≡ w → ((s : State) → y ≡ world_after_event (record v { state = s }) p e t) → FitsStore t → FitsStore y.state
 took_fits w v y p e t is follows fits = subst (λ (s : State). FitsStore s) (sym (took_to v y p e t follows)) fits
 
 pub took_steady : (w v y : WorldState) (p : ℕ) (e : Event) (t : State) → v ≡ w → t ≡ awake (stored v.state p e (effect_of v.state p e).state)
-    → ((s : State) → y ≡ behind (record v { state = s }) p e t) → awake_verdict w.state p e ≡ Permit → IsSteady w → IsSteady y
+    → ((s : State) → y ≡ world_after_event (record v { state = s }) p e t) → awake_verdict w.state p e ≡ Permit → IsSteady w → IsSteady y
 took_steady w v y p e t is led follows may steady = subst IsSteady (sym (took_up w v y p e t is led follows)) (event_steady w p e may steady)
 
 -- a process that joins those who wait leaves places right

@@ -2,9 +2,9 @@
 use Rattle.std.proofs.Common.{◌≡◌, ℕ, ◌≤◌, ◌==◌, true, false, cond, [], ◌∷◌, refl, arith}
 use Rattle.std.proofs.lemmas.Bool.Decides.{nat_tests}
 use Rattle.s38_rules.specs.declared.object.Object.{Object}
-use Rattle.s38_rules.specs.Held.{charge_in, pages_for, pages_of}
-use Rattle.s38_rules.specs.Kept.{CanBeKept}
-use Rattle.s38_rules.specs.Opening.{general_context, held_first, held_installed, installed, locked_queue, machine_context, officer, opening, plain_user}
+use Rattle.s38_rules.specs.state.Held.{charge_in, pages_for, pages_of}
+use Rattle.s38_rules.specs.state.Kept.{CanBeKept}
+use Rattle.s38_rules.specs.state.Opening.{general_context, held_first, held_installed, installed, locked_queue, machine_context_object, officer_object, opening, plain_user}
 use Rattle.s38_rules.proofs.ChargeLaws.{charge_first, charge_none}
 
 one_page : (user : ℕ) (o : Object) → pages_of o.body ≡ 1 → pages_for user o ≤ 1
@@ -18,10 +18,10 @@ unfolding opening
 charge_few user =
     omega (
       arith,
-      charge_first user machine_context (officer ∷ general_context ∷ plain_user ∷ locked_queue ∷ []),
-      one_page user machine_context refl,
-      charge_first user officer (general_context ∷ plain_user ∷ locked_queue ∷ []),
-      one_page user officer refl,
+      charge_first user machine_context_object (officer_object ∷ general_context ∷ plain_user ∷ locked_queue ∷ []),
+      one_page user machine_context_object refl,
+      charge_first user officer_object (general_context ∷ plain_user ∷ locked_queue ∷ []),
+      one_page user officer_object refl,
       charge_first user general_context (plain_user ∷ locked_queue ∷ []),
       one_page user general_context refl,
       charge_first user plain_user (locked_queue ∷ []),
@@ -37,10 +37,10 @@ charge_nothing user least =
     let high : 3 ≤ user = omega (arith, least) in
     omega (
       arith,
-      charge_first user machine_context (officer ∷ general_context ∷ plain_user ∷ locked_queue ∷ []),
-      no_page user machine_context refl high,
-      charge_first user officer (general_context ∷ plain_user ∷ locked_queue ∷ []),
-      no_page user officer refl high,
+      charge_first user machine_context_object (officer_object ∷ general_context ∷ plain_user ∷ locked_queue ∷ []),
+      no_page user machine_context_object refl high,
+      charge_first user officer_object (general_context ∷ plain_user ∷ locked_queue ∷ []),
+      no_page user officer_object refl high,
       charge_first user general_context (plain_user ∷ locked_queue ∷ []),
       no_page user general_context refl high,
       charge_first user plain_user (locked_queue ∷ []),
@@ -61,10 +61,10 @@ unfolding installed
 installed_few user =
     omega (
       arith,
-      charge_first user machine_context (officer ∷ []),
-      one_page user machine_context refl,
-      charge_first user officer [],
-      one_page user officer refl,
+      charge_first user machine_context_object (officer_object ∷ []),
+      one_page user machine_context_object refl,
+      charge_first user officer_object [],
+      one_page user officer_object refl,
       charge_none user,
     )
 
@@ -73,10 +73,10 @@ unfolding installed
 installed_nothing user high =
     omega (
       arith,
-      charge_first user machine_context (officer ∷ []),
-      no_page user machine_context refl high,
-      charge_first user officer [],
-      no_page user officer refl high,
+      charge_first user machine_context_object (officer_object ∷ []),
+      no_page user machine_context_object refl high,
+      charge_first user officer_object [],
+      no_page user officer_object refl high,
       charge_none user,
     )
 

@@ -3,10 +3,10 @@ use Rattle.std.proofs.Common.{◌≡◌, ℕ, None}
 use Rattle.s38_code.specs.declared.event.Event.TheVariants.{Act}
 use Rattle.s38_code.specs.declared.event.Request.{Request}
 use Rattle.s38_rules.specs.declared.verdict.Verdict.TheVariants.{Permit}
-use Rattle.s38_rules.specs.Rows.{row}
-use Rattle.s38_rules.specs.State.{State}
-use Rattle.s38_rules.specs.Verdict.{refused_by, ruled_verdict}
-use Rattle.s38_rules.specs.Step.{awake_verdict}
+use Rattle.s38_rules.specs.families.Rows.{row}
+use Rattle.s38_rules.specs.state.State.{State}
+use Rattle.s38_rules.specs.step.Verdict.{refused_by, ruled_verdict}
+use Rattle.s38_rules.specs.step.Step.{awake_verdict}
 use Rattle.s38_rules.proofs.RoomLaws.{permitted_by_rules}
 use Rattle.s38_rules.proofs.VerdictLaws.{permitted_none, rule_met}
 

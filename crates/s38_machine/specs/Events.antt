@@ -4,10 +4,10 @@ use Rattle.s38_code.specs.declared.event.Event.{Event}
 use Rattle.s38_code.specs.declared.event.Event.TheVariants.{Start, Act, Finish}
 use Rattle.s38_code.specs.declared.operand.Operand.{Operand}
 use Rattle.s38_code.specs.declared.reply.Val.{Val}
-use Rattle.s38_rules.specs.Computing.{receiver_at}
-use Rattle.s38_rules.specs.Operands.{delivered}
-use Rattle.s38_rules.specs.Rows.{row}
-use Rattle.s38_rules.specs.State.{State}
+use Rattle.s38_rules.specs.families.Computing.{receiver_at}
+use Rattle.s38_rules.specs.ask.Receivers.{delivered}
+use Rattle.s38_rules.specs.families.Rows.{row}
+use Rattle.s38_rules.specs.state.State.{State}
 
 abbrev pub receiver_of : Event → Option Operand
 receiver_of Start = None

@@ -3,7 +3,7 @@ use Rattle.std.specs.Prelude.{◌≡◌, ℕ, Result}
 use Rattle.s38_code.specs.declared.event.Event.{Event}
 use Rattle.s38_code.specs.declared.reply.Reply.{Reply}
 use Rattle.s38_code.specs.declared.step.StepFault.{StepFault}
-use Rattle.s38_rules.specs.Legal.{IsStep, Run}
+use Rattle.s38_rules.specs.step.Legal.{IsStep, Run}
 
 -- an answer is that of one step, and the moment stays
 abbrev pub IsStillStep : Run → ℕ → Event → Result Reply StepFault → Run → Type 0

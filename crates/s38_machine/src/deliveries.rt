@@ -1,8 +1,8 @@
 //! How the value of an instruction comes to its receiver: to a variable with the reply, into a space at once.
 ghost use Rattle.std.specs.Prelude.{◌≡◌, ◌∷◌, ℕ, [], IfOk};
 ghost use Rattle.std.specs.Option.{option_copied};
-ghost use Rattle.s38_rules.specs.State.{State};
-ghost use Rattle.s38_rules.specs.Operands.{delivered};
+ghost use Rattle.s38_rules.specs.state.State.{State};
+ghost use Rattle.s38_rules.specs.ask.Receivers.{delivered};
 
 use s38_base::{NoMemory, Pointer, Seq};
 use s38_changes::put_value;
@@ -40,7 +40,7 @@ pub fn parted(
     }
 }
 
-/// A value goes into the space of its receiver, so many bytes behind its beginning; it takes no memory.
+/// A value goes into the space of its receiver, so many bytes past its beginning; it takes no memory.
 pub fn put(
     world: &mut Core<Objects, Profiles>,
     shift: u16,

@@ -2,33 +2,33 @@
 ghost use Rattle.std.specs.Prelude.{◌≡◌, ◌∷◌, ℕ, None, IfOk, OnOk, OnErr, length};
 ghost use Rattle.s38_code.specs.declared.event.Event.{Event};
 ghost use Rattle.s38_rules.specs.declared.verdict.Verdict.{Verdict};
-ghost use Rattle.s38_rules.specs.Computing.{receiver_at};
-ghost use Rattle.s38_rules.specs.Effect.{effect, effect_of};
-ghost use Rattle.s38_rules.specs.Operands.{delivered};
-ghost use Rattle.s38_rules.specs.Rows.{row};
-ghost use Rattle.s38_rules.specs.State.{State};
-ghost use Rattle.s38_rules.specs.Step.{awake, awake_verdict};
-ghost use Rattle.s38_rules.specs.Storing.{stored};
+ghost use Rattle.s38_rules.specs.families.Computing.{receiver_at};
+ghost use Rattle.s38_rules.specs.step.Effect.{effect, effect_of};
+ghost use Rattle.s38_rules.specs.ask.Receivers.{delivered};
+ghost use Rattle.s38_rules.specs.families.Rows.{row};
+ghost use Rattle.s38_rules.specs.state.State.{State};
+ghost use Rattle.s38_rules.specs.step.Step.{awake, awake_verdict};
+ghost use Rattle.s38_rules.specs.store.Storing.{stored};
 ghost use Rattle.s38_machine.specs.Events.{GoesAsThatOf};
-ghost use Rattle.s38_machine.specs.Stored.{FitsStore, IsPrepared, anew};
-ghost use Rattle.s38_verified.specs.Following.{behind};
-ghost use Rattle.s38_verified.specs.Places.{IsSteady};
+ghost use Rattle.s38_machine.specs.Stored.{FitsStore, IsPrepared, must_persist_at};
+ghost use Rattle.s38_rights_cache.specs.Following.{world_after_event};
+ghost use Rattle.s38_rights_cache.specs.Places.{IsSteady};
 
 use crate::deliveries::{parted, put};
 use crate::rows;
-use crate::storing::{keep, prepared};
+use crate::storing::{keep_stored, prepared};
 use s38_base::{NoMemory, Seq};
 use s38_code::{Event, Val, Vals};
-use s38_extents::{Forcings, Room};
 use s38_invoke::{Core, Profiles, start};
 use s38_objects::Objects;
 use s38_operands::{Act, receiver_at, shift_at};
+use s38_rights_cache::World;
+use s38_space_map::{Forcings, Room};
 use s38_units::end;
-use s38_verified::World;
 use std::alloc::Global;
 
 /// The values of the reply to an instruction, and what goes into the space of its receiver.
-#[tactic(auto, unfolding(s38_rules::specs::Effect::effect))]
+#[tactic(auto, unfolding(s38_rules::specs::step::Effect::effect))]
 fn act_values(
     alloc: Global,
     world: &Core<Objects, Profiles>,
@@ -47,7 +47,7 @@ fn act_values(
 }
 
 /// The values of the reply to a permitted event, and what goes into the space of its receiver.
-#[tactic(auto, unfolding(s38_rules::specs::Effect::effect_of))]
+#[tactic(auto, unfolding(s38_rules::specs::step::Effect::effect_of))]
 pub fn parted_values(
     alloc: Global,
     world: &Core<Objects, Profiles>,
@@ -71,7 +71,7 @@ pub fn parted_values(
 }
 
 /// An instruction changes what it changes, and then its value goes into the space of its receiver.
-#[tactic(auto, unfolding(s38_rules::specs::Effect::effect))]
+#[tactic(auto, unfolding(s38_rules::specs::step::Effect::effect))]
 fn carry_out(
     alloc: Global,
     world: &mut Core<Objects, Profiles>,
@@ -95,7 +95,7 @@ fn carry_out(
     }
 }
 
-#[tactic(auto, using(crate::proofs::VerdictLaws::permitted_conditions), unfolding(s38_rules::specs::Effect::effect_of))]
+#[tactic(auto, using(crate::proofs::VerdictLaws::permitted_conditions), unfolding(s38_rules::specs::step::Effect::effect_of))]
 fn take_effect(
     alloc: Global,
     world: &mut Core<Objects, Profiles>,
@@ -125,7 +125,7 @@ fn take_effect(
     }
 }
 
-/// A permitted event takes effect, and the store keeps what it is to keep anew of it, for which the memory is prepared.
+/// A permitted event takes effect, and the store keeps what of it must persist, for which the memory is prepared.
 fn take_stored(
     alloc: Global,
     world: &mut Core<Objects, Profiles>,
@@ -138,7 +138,7 @@ fn take_stored(
     requires permit { awake_verdict world.old process event.now ≡ Verdict.Permit }
     requires value { GoesAsThatOf world.old process event.now value }
     requires fits { FitsStore world.old }
-    requires anew { all.now ≡ anew world.old process event.now }
+    requires anew { all.now ≡ must_persist_at world.old process event.now }
     requires prepared { IsPrepared world.old.room all.now spare }
     ensures ok { OnOk result (world.new ≡ stored world.old process event.now (effect_of world.old process event.now).state) }
     ensures err { OnErr result (world.new ≡ world.old) }
@@ -148,13 +148,13 @@ fn take_stored(
         Err(fault) => Err(fault),
         Ok(()) => {
             let _count = world.objects.len();
-            keep(world, all, spare);
+            keep_stored(world, all, spare);
             Ok(())
         }
     }
 }
 
-/// A permitted event takes effect, with the value that goes into the space of its receiver, the store keeps this anew of it,
+/// A permitted event takes effect, with the value that goes into the space of its receiver, the store keeps this of it,
 /// and nobody waits any more; where memory is refused nothing changes.
 #[tactic(auto, using(crate::proofs::StoredLaws::stored_keeps))]
 pub fn apply(
@@ -168,7 +168,7 @@ pub fn apply(
     requires permit { awake_verdict world.old process event.now ≡ Verdict.Permit }
     requires value { GoesAsThatOf world.old process event.now value }
     requires fits { FitsStore world.old }
-    requires anew { all.now ≡ anew world.old process event.now }
+    requires anew { all.now ≡ must_persist_at world.old process event.now }
     ensures ok { OnOk result (world.new ≡ awake (stored world.old process event.now (effect_of world.old process event.now).state)) }
     ensures err { OnErr result (world.new ≡ world.old) }
     ensures kept { OnOk result (length world.new.processes ≡ length world.old.processes) }
@@ -196,9 +196,9 @@ pub fn take_up(
     requires permit { awake_verdict world.old.state process event.now ≡ Verdict.Permit }
     requires value { GoesAsThatOf world.old.state process event.now value }
     requires fits { FitsStore world.old.state }
-    requires anew { all.now ≡ anew world.old.state process event.now }
+    requires anew { all.now ≡ must_persist_at world.old.state process event.now }
     requires steady { IsSteady world.old }
-    ensures ok { OnOk result (world.new ≡ behind world.old process event.now (awake (stored world.old.state process event.now (effect_of world.old.state process event.now).state))) }
+    ensures ok { OnOk result (world.new ≡ world_after_event world.old process event.now (awake (stored world.old.state process event.now (effect_of world.old.state process event.now).state))) }
     ensures state { OnOk result (world.new.state ≡ awake (stored world.old.state process event.now (effect_of world.old.state process event.now).state)) }
     ensures err { OnErr result (world.new ≡ world.old) }
     ensures kept { OnOk result (length world.new.state.processes ≡ length world.old.state.processes) }

@@ -15,7 +15,7 @@ pub use machine::{Machine, State};
 pub use opening::{general_opening, installed};
 use s38_invoke::{Core, Profiles};
 use s38_objects::Objects;
-use s38_verified::World;
+use s38_rights_cache::World;
 use std::snapshot::Snapshot;
 pub use world_machine::WorldMachine;
 

@@ -21,7 +21,7 @@ pub struct Log {
 
 impl Model for Log {
     ghost use Rattle.std.specs.Prelude.{◌≡◌, ◌<◌, ◌+◌, ◌-◌, ℕ, min, vec_capacity, vec_len, slice_index};
-    ghost use Rattle.s38_code.specs.History.{count_of};
+    ghost use Rattle.s38_code.specs.History.{entry_count};
     ghost use Rattle.s38_machine.specs.Log.{Logged};
 
     ghost Value = { Logged };
@@ -35,7 +35,7 @@ impl Model for Log {
       moment = l.moment;
     } };
 
-    ghost invariant = { λ l. (k : ℕ) → k < vec_len l.counts → slice_index l.counts.items k ≡ count_of (k + 1) l.entries.items };
+    ghost invariant = { λ l. (k : ℕ) → k < vec_len l.counts → slice_index l.counts.items k ≡ entry_count (k + 1) l.entries.items };
 }
 
 /// As many zeros as there are processes.

@@ -4,24 +4,24 @@ ghost use Rattle.s38_code.specs.Asking.{last_reply, reply_by};
 ghost use Rattle.s38_code.specs.declared.step.StepFault.{StepFault};
 ghost use Rattle.s38_machine.specs.Answered.{run_of};
 ghost use Rattle.s38_machine.specs.Stored.{FitsStore, kept_anew, stamped, stored_state_of};
-ghost use Rattle.s38_rules.specs.Kept.{CanBeKept};
-ghost use Rattle.s38_rules.specs.Legal.{IsProcess, IsSound, after, begun, no_moment};
-ghost use Rattle.s38_rules.specs.Opening.{state_of};
-ghost use Rattle.s38_rules.specs.State.{ready, ready_list};
-ghost use Rattle.s38_rules.specs.Step.{step, verdict_of};
-ghost use Rattle.s38_verified.specs.Places.{IsSteady};
+ghost use Rattle.s38_rules.specs.state.Kept.{CanBeKept};
+ghost use Rattle.s38_rules.specs.step.Legal.{IsProcess, IsSound, after, begun, no_moment};
+ghost use Rattle.s38_rules.specs.state.Opening.{state_of};
+ghost use Rattle.s38_rules.specs.state.State.{ready, ready_list};
+ghost use Rattle.s38_rules.specs.step.Step.{step, verdict_of};
+ghost use Rattle.s38_rights_cache.specs.Places.{IsSteady};
 
 use crate::opening::opened;
 use crate::world_machine::WorldMachine;
 use s38_base::NoMemory;
 use s38_code::{Asked, Checked, Entry, Event, Job, Reply, StepFault, Stepper};
 use s38_commits::Units;
-use s38_extents::{Forcings, Room};
 use s38_invoke::{Core, Profiles};
 use s38_objects::Objects;
+use s38_rights_cache::World;
 use s38_rules::Verdict;
+use s38_space_map::{Forcings, Room};
 use s38_verdicts::verdict_of;
-use s38_verified::World;
 use std::alloc::Global;
 use std::marker::Model;
 
@@ -42,7 +42,7 @@ pub struct Machine {
 
 impl Model for Machine {
     ghost use Rattle.s38_machine.specs.Answered.{run_of};
-    ghost use Rattle.s38_rules.specs.Legal.{Run};
+    ghost use Rattle.s38_rules.specs.step.Legal.{Run};
 
     ghost Value = { Run };
 
@@ -185,7 +185,7 @@ impl Machine {
         self.seen.log.last_reply()
     }
 
-    /// Answers one event of a job's process as `ask` does, and says what the store is to keep anew behind the answer: nothing
+    /// Answers one event of a job's process as `ask` does, and says what must persist after the answer: nothing
     /// where the event does not take effect.
     pub fn ask_anew(&mut self, process: u32, event: Event) -> Result<(Asked, Forcings), NoMemory>
         requires first { 0 < process }
@@ -254,8 +254,8 @@ impl Machine {
 impl Stepper for Machine {
     ghost use Rattle.std.specs.Prelude.{None, Option, ℕ};
     ghost use Rattle.s38_code.specs.declared.event.Event.{Event};
-    ghost use Rattle.s38_rules.specs.State.{State};
-    ghost use Rattle.s38_rules.specs.Legal.{IsProcess, IsSound};
+    ghost use Rattle.s38_rules.specs.state.State.{State};
+    ghost use Rattle.s38_rules.specs.step.Legal.{IsProcess, IsSound};
     ghost use Rattle.s38_machine.specs.Still.{IsStillStep};
 
     ghost Origin = { State };

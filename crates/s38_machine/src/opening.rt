@@ -1,9 +1,9 @@
 ghost use Rattle.std.specs.Prelude.{◌≡◌, ◌<◌, ◌≤◌, ◌^◌, None, IsTrue, IfOk, OnOk, true};
 ghost use Rattle.s38_objects.specs.Lawful.{is_place_of};
-ghost use Rattle.s38_rules.specs.Held.{found, with_added};
+ghost use Rattle.s38_rules.specs.state.Held.{found, with_added};
 ghost use Rattle.s38_base.specs.NameText.{is_name};
-ghost use Rattle.s38_rules.specs.Kept.{CanBeKept};
-ghost use Rattle.s38_rules.specs.Opening.{general_context, held_first, held_installed, locked_queue, machine_context, named, officer, officer_rows, owned, plain_user, process_entries, state_of};
+ghost use Rattle.s38_rules.specs.state.Kept.{CanBeKept};
+ghost use Rattle.s38_rules.specs.state.Opening.{general_context, held_first, held_installed, locked_queue, machine_context_object, named, officer_object, officer_rows, owned, plain_user, process_entries, state_of};
 
 use s38_base::limits::BODY_LIMIT;
 use s38_base::{Id, Kind, Name, NoMemory, ObjNum, Rights, Special, TryClone};
@@ -54,14 +54,14 @@ fn owned(
 }
 
 fn machine_context(alloc: Global) -> Result<Object, NoMemory>
-    ensures { IfOk result (λ object. object ≡ machine_context) }
+    ensures { IfOk result (λ object. object ≡ machine_context_object) }
 {
     let id = named(Kind::Context, b"QMACHINE");
     owned(alloc, 1, &id, 1, Rights(12), Body::Context)
 }
 
 fn officer(alloc: Global) -> Result<Object, NoMemory>
-    ensures { IfOk result (λ object. object ≡ officer) }
+    ensures { IfOk result (λ object. object ≡ officer_object) }
 {
     let id = named(Kind::Profile, b"QSECOFR");
     let body = Body::Profile {
@@ -112,7 +112,7 @@ fn add(objects: &mut Objects, object: Object) -> Result<(), NoMemory>
 
 /// The objects of the general opening: the machine context and the security officer, a context for everybody, a user
 /// without special authorities, and a queue that everybody may find and nobody else may use.
-#[tactic(auto, using(crate::proofs::OpeningLaws::opening_kept), unfolding(s38_rules::specs::Opening::opening, s38_base::specs::Ids::same_id))]
+#[tactic(auto, using(crate::proofs::OpeningLaws::opening_kept), unfolding(s38_rules::specs::state::Opening::opening, s38_base::specs::Ids::same_id))]
 pub fn general_opening(alloc: Global) -> Result<Objects, NoMemory>
     ensures objects { IfOk result (λ objects. objects ≡ held_first) }
     ensures kept { IfOk result (λ objects. CanBeKept objects) }
@@ -128,7 +128,7 @@ pub fn general_opening(alloc: Global) -> Result<Objects, NoMemory>
 }
 
 /// The objects of a store that was installed: the machine context and the security officer.
-#[tactic(auto, using(crate::proofs::OpeningLaws::installed_kept), unfolding(s38_rules::specs::Opening::installed, s38_base::specs::Ids::same_id))]
+#[tactic(auto, using(crate::proofs::OpeningLaws::installed_kept), unfolding(s38_rules::specs::state::Opening::installed, s38_base::specs::Ids::same_id))]
 pub fn installed(alloc: Global) -> Result<Objects, NoMemory>
     ensures objects { IfOk result (λ objects. objects ≡ held_installed) }
     ensures kept { IfOk result (λ objects. CanBeKept objects) }

@@ -1,7 +1,7 @@
 //! What the row of an instruction does, by its family.
 ghost use Rattle.std.specs.Prelude.{◌≡◌, None, IfOk, OnOk, OnErr};
-ghost use Rattle.s38_rules.specs.Changes.{done};
-ghost use Rattle.s38_rules.specs.Rows.{row};
+ghost use Rattle.s38_rules.specs.families.Changes.{done};
+ghost use Rattle.s38_rules.specs.families.Rows.{row};
 
 use s38_admin::{contexts, grants, profiles, resolving, spaces};
 use s38_base::NoMemory;
@@ -17,7 +17,7 @@ use s38_programs::programs;
 use std::alloc::Global;
 
 /// The value for its receiver; None where it gives none.
-#[tactic(auto, unfolding(s38_rules::specs::Rows::row_in))]
+#[tactic(auto, unfolding(s38_rules::specs::families::Rows::row_in))]
 pub fn value(
     alloc: Global,
     world: &Core<Objects, Profiles>,
@@ -43,7 +43,7 @@ pub fn value(
 }
 
 /// What it changes, where it doesn't fail; where memory is refused nothing changes.
-#[tactic(auto, using(s38_rules::proofs::Laws::resolving_still), unfolding(s38_rules::specs::Rows::row_in))]
+#[tactic(auto, using(s38_rules::proofs::Laws::resolving_still), unfolding(s38_rules::specs::families::Rows::row_in))]
 pub fn apply(
     alloc: Global,
     world: &mut Core<Objects, Profiles>,

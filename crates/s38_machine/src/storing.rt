@@ -1,21 +1,21 @@
-//! What a step has a store keep: the room behind the step, and journal spaces of which every byte is kept.
+//! What a step has a store keep: the room after the step, and journal spaces of which every byte is kept.
 ghost use Rattle.std.specs.Prelude.{◌≡◌, ◌≤◌, All, IfOk, IfSome, Some, length};
-ghost use Rattle.s38_extents.specs.Forcings.{all_forced, forced_as};
+ghost use Rattle.s38_space_map.specs.Forcings.{all_forced, forced_as};
 ghost use Rattle.s38_journals.specs.Journals.{forced as forced_journal};
 ghost use Rattle.s38_machine.specs.Stored.{IsPrepared};
-ghost use Rattle.s38_room.specs.Following.{FitsBut};
-ghost use Rattle.s38_rules.specs.Parts.{on_journal};
-ghost use Rattle.s38_rules.specs.Storable.{IsStorable};
-ghost use Rattle.s38_rules.specs.Storing.{all_kept, kept_one, stored_in};
+ghost use Rattle.s38_space_rules.specs.Following.{FitsBut};
+ghost use Rattle.s38_rules.specs.state.PartsAt.{on_journal};
+ghost use Rattle.s38_rules.specs.store.Storable.{IsStorable};
+ghost use Rattle.s38_rules.specs.store.Storing.{all_kept, kept_one, stored_in};
 
 use s38_base::{NoMemory, ObjNum};
-use s38_extents::{Forcing, Forcings, Room};
 use s38_invoke::{Core, Profiles};
 use s38_objects::Objects;
-use s38_room::follow;
+use s38_space_map::{Forcing, Forcings, Room};
+use s38_space_rules::follow;
 use std::alloc::Global;
 
-/// The room of the store once more, with the memory for what is kept anew; None where nothing is.
+/// The room of the store once more, with the memory for what must persist; None where nothing must.
 pub fn prepared(
     alloc: Global,
     world: &Core<Objects, Profiles>,
@@ -51,7 +51,7 @@ fn keep_one(objects: &mut Objects, one: Forcing)
 }
 
 /// Every byte is kept of each journal space that is kept whole.
-#[tactic(auto, unfolding(s38_rules::specs::Storing::all_kept))]
+#[tactic(auto, unfolding(s38_rules::specs::store::Storing::all_kept))]
 fn keep_each(objects: &mut Objects, all: &[Forcing])
     ensures { objects.new ≡ all_kept objects.old (all_forced all.now) }
 {
@@ -64,7 +64,7 @@ fn keep_each(objects: &mut Objects, all: &[Forcing])
     }
 }
 
-/// The store keeps this anew, and this room, which has the memory for it, follows.
+/// This must persist: the store keeps it, and this room, which has the memory for it, follows.
 fn keep_these(world: &mut Core<Objects, Profiles>, all: &Forcings, room: Room)
     requires spare { length all.now ≤ room.spare }
     requires fits { FitsBut all.now room.room.extents world.old.held }
@@ -79,7 +79,7 @@ fn keep_these(world: &mut Core<Objects, Profiles>, all: &Forcings, room: Room)
 
 /// The store keeps what a step forces that led to these objects, where its room fits all others of them.
 #[tactic(auto, using(crate::proofs::StoredLaws::fits_prepared, crate::proofs::StoredLaws::none_prepared, crate::proofs::StoredLaws::prepared_some))]
-pub fn keep(world: &mut Core<Objects, Profiles>, all: &Forcings, spare: Option<Room>)
+pub fn keep_stored(world: &mut Core<Objects, Profiles>, all: &Forcings, spare: Option<Room>)
     requires prepared { IsPrepared world.old.room all.now spare }
     requires fits { IfSome world.old.room (λ room. FitsBut all.now room.extents world.old.held) }
     requires storable { IfSome world.old.room (λ _. All IsStorable world.old.held.objects) }

@@ -6,24 +6,24 @@ ghost use Rattle.s38_rules.specs.declared.verdict.Verdict.{Verdict};
 ghost use Rattle.s38_machine.specs.Answered.{IsAnsweredWorld, IsCheckedWorld, begun_run, entered, run_of};
 ghost use Rattle.s38_machine.specs.Events.{GoesAsThatOf};
 ghost use Rattle.s38_machine.specs.Log.{with_last};
-ghost use Rattle.s38_machine.specs.Stored.{FitsStore, anew, anew_by, kept_anew};
-ghost use Rattle.s38_rules.specs.Effect.{effect_of};
-ghost use Rattle.s38_rules.specs.Legal.{after};
-ghost use Rattle.s38_rules.specs.State.{waits};
-ghost use Rattle.s38_rules.specs.Step.{awake_verdict, by_verdict, step};
+ghost use Rattle.s38_machine.specs.Stored.{FitsStore, kept_anew, must_persist_at, must_persist_by};
+ghost use Rattle.s38_rules.specs.step.Effect.{effect_of};
+ghost use Rattle.s38_rules.specs.step.Legal.{after};
+ghost use Rattle.s38_rules.specs.state.State.{waits};
+ghost use Rattle.s38_rules.specs.step.Step.{awake_verdict, by_verdict, step};
 ghost use Rattle.s38_verdicts.specs.Asked.{checks_of, depth_of};
-ghost use Rattle.s38_verified.specs.Places.{AreChecked, AreOwned, IsSteady, NobodyLives};
+ghost use Rattle.s38_rights_cache.specs.Places.{AreChecked, AreOwned, IsSteady, NobodyLives};
 
 use crate::effects::{parted_values, take_up, wait};
 use crate::log::Log;
 use s38_base::{Exception, NoMemory, TryClone, try_clones};
 use s38_code::{Asked, Event, Reply, Val, Vals};
-use s38_extents::Forcings;
 use s38_invoke::{Core, Profiles};
 use s38_objects::Objects;
+use s38_rights_cache::World;
 use s38_rules::Verdict;
+use s38_space_map::Forcings;
 use s38_verdicts::{Judged, ask_verdict};
-use s38_verified::World;
 use std::alloc::Global;
 use std::marker::Model;
 use std::snapshot::Snapshot;
@@ -42,7 +42,7 @@ impl Model for WorldMachine {
     ghost use Rattle.std.specs.Prelude.{◌≡◌, length};
     ghost use Rattle.s38_machine.specs.Answered.{WorldRun};
     ghost use Rattle.s38_machine.specs.Stored.{FitsStore};
-    ghost use Rattle.s38_verified.specs.Places.{IsSteady};
+    ghost use Rattle.s38_rights_cache.specs.Places.{IsSteady};
 
     ghost Value = { WorldRun };
 
@@ -60,7 +60,7 @@ fn are_owned(core: &Core<Objects, Profiles>)
 
 impl WorldMachine {
     /// A machine that begins from this core, at a moment of its store.
-    #[tactic(auto, using(s38_verified::proofs::AskLaws::begun_steady))]
+    #[tactic(auto, using(s38_rights_cache::proofs::AskLaws::begun_steady))]
     pub(crate) fn begin(
         alloc: Global,
         core: Core<Objects, Profiles>,
@@ -98,7 +98,7 @@ impl WorldMachine {
         self.world.core.waits(process)
     }
 
-    /// A permitted event that has the store keep this anew takes effect and is entered, with the values of its reply, and the
+    /// A permitted event of which this must persist takes effect and is entered, with the values of its reply, and the
     /// value that goes into the space of its receiver.
     #[inline(always)]
     fn enter_permitted(
@@ -114,7 +114,7 @@ impl WorldMachine {
         requires permit { awake_verdict self.old.world.state process event ≡ Verdict.Permit }
         requires values { values ≡ (effect_of self.old.world.state process event).values }
         requires value { GoesAsThatOf self.old.world.state process event value }
-        requires anew { all.now ≡ anew self.old.world.state process event }
+        requires anew { all.now ≡ must_persist_at self.old.world.state process event }
         ensures ok { OnOk result (self.new ≡ entered self.old process event Verdict.Permit (by_verdict self.old.world.state process event Verdict.Permit)) }
         ensures err { OnErr result (self.new ≡ self.old) }
     {
@@ -124,13 +124,13 @@ impl WorldMachine {
         Ok(())
     }
 
-    /// A permitted event that has the store keep this anew takes effect and is entered.
+    /// A permitted event of which this must persist takes effect and is entered.
     #[inline(always)]
     fn permit(&mut self, process: u32, event: Event, all: &Forcings) -> Result<(), NoMemory>
         requires first { 0 < process }
         requires last { process ≤ length self.old.world.state.processes }
         requires permit { awake_verdict self.old.world.state process event ≡ Verdict.Permit }
-        requires anew { all.now ≡ anew self.old.world.state process event }
+        requires anew { all.now ≡ must_persist_at self.old.world.state process event }
         ensures ok { OnOk result (self.new ≡ entered self.old process event Verdict.Permit (by_verdict self.old.world.state process event Verdict.Permit)) }
         ensures err { OnErr result (self.new ≡ self.old) }
     {
@@ -148,7 +148,7 @@ impl WorldMachine {
         requires first { 0 < process }
         requires last { process ≤ length self.old.world.state.processes }
         requires permit { awake_verdict self.old.world.state process event ≡ Verdict.Permit }
-        requires anew { all.now ≡ anew self.old.world.state process event }
+        requires anew { all.now ≡ must_persist_at self.old.world.state process event }
         ensures ok { IfOk result (λ r. (r ≡ (by_verdict self.old.world.state process event Verdict.Permit).reply)
             × (self.new ≡ entered self.old process event Verdict.Permit (by_verdict self.old.world.state process event Verdict.Permit))) }
         ensures err { OnErr result (self.new ≡ self.old) }
@@ -186,18 +186,18 @@ impl WorldMachine {
         Ok(())
     }
 
-    /// What becomes of an event of a process that doesn't wait, and what the store is to keep anew of it. What is found of its
-    /// rights stands in the process's place.
+    /// What becomes of an event of a process that doesn't wait, and what of it must persist. What is found of its
+    /// rights goes into the process's place.
     fn judge(&mut self, process: u32, event: &Event) -> Judged
         ensures verdict { result.verdict ≡ awake_verdict self.old.world.state process event.now }
-        ensures anew { result.anew ≡ anew_by self.old.world.state process event.now result.verdict }
+        ensures anew { result.anew ≡ must_persist_by self.old.world.state process event.now result.verdict }
         ensures checked { AreChecked self.old.world process (depth_of event.now) (checks_of self.old.world.state process event.now) self.new.world }
         ensures same { self.new ≡ record self.old { world = self.new.world } }
     {
         ask_verdict(&mut self.world, process, event)
     }
 
-    /// An event that was given this verdict is entered, where the store is to keep this anew of it.
+    /// An event that was given this verdict, and of which this must persist, is entered.
     fn answer(
         &mut self,
         process: u32,
@@ -208,7 +208,7 @@ impl WorldMachine {
         requires first { 0 < process }
         requires last { process ≤ length self.old.world.state.processes }
         requires verdict { awake_verdict self.old.world.state process event ≡ verdict }
-        requires anew { all.now ≡ anew_by self.old.world.state process event verdict }
+        requires anew { all.now ≡ must_persist_by self.old.world.state process event verdict }
         ensures ok { OnOk result (self.new ≡ entered self.old process event verdict (by_verdict self.old.world.state process event verdict)) }
         ensures err { OnErr result (self.new ≡ self.old) }
     {
@@ -221,7 +221,7 @@ impl WorldMachine {
 
     /// Answers one event of a job's process, which goes into the history with its reply: it takes effect, is refused by the
     /// first rule that fails, or waits. Rights that it needs are found by the place of its process before it takes effect; what
-    /// is found last stays there. Says too what a store is to keep anew behind the answer: nothing where the event does not take
+    /// is found last stays there. Says too what must persist after the answer: nothing where the event does not take
     /// effect. Where memory is refused, at most the place of the process and the visits are others.
     #[inline(always)]
     pub fn ask(&mut self, process: u32, event: Event) -> Result<(Asked, Forcings), NoMemory>
@@ -244,7 +244,7 @@ impl WorldMachine {
         }
     }
 
-    /// An event that was given this verdict is entered, where the store is to keep this anew of it, and a copy of its reply is
+    /// An event that was given this verdict, and of which this must persist, is entered, and a copy of its reply is
     /// given.
     fn answer_copied(
         &mut self,
@@ -256,7 +256,7 @@ impl WorldMachine {
         requires first { 0 < process }
         requires last { process ≤ length self.old.world.state.processes }
         requires verdict { awake_verdict self.old.world.state process event ≡ verdict }
-        requires anew { all.now ≡ anew_by self.old.world.state process event verdict }
+        requires anew { all.now ≡ must_persist_by self.old.world.state process event verdict }
         ensures ok { IfOk result (λ r. (r ≡ (by_verdict self.old.world.state process event verdict).reply) × (self.new ≡ entered self.old process event verdict (by_verdict self.old.world.state process event verdict))) }
         ensures err { OnErr result (self.new ≡ self.old) }
     {

@@ -8,7 +8,7 @@ use Rattle.s38_base.specs.declared.pointer.Pointer.{Pointer}
 use Rattle.s38_base.specs.declared.pointer.Pointer.TheVariants.{System, Space, Item}
 use Rattle.s38_memory.specs.declared.cell.Cell.{Cell}
 use Rattle.s38_memory.specs.declared.cell.Cell.TheVariants.{Bytes, Tagged}
-use Rattle.s38_memory.specs.Cell.{IsCell, bytes_of}
+use Rattle.s38_memory.specs.Cell.{IsCell, bytes_of_cell}
 use Rattle.s38_memory.specs.Image.{fields, image}
 
 length-image : (p : Pointer) → length (image p) ≡ 16
@@ -21,16 +21,16 @@ length-image (Item object offset (Binary size)) = refl
 length-image (Item object offset (Chars len)) = refl
 length-image (Item object offset _) = refl
 
-pub length-bytes_of : (cell : Cell) → IsCell cell → length (bytes_of cell) ≡ 16
+pub length-bytes_of : (cell : Cell) → IsCell cell → length (bytes_of_cell cell) ≡ 16
 length-bytes_of (Bytes bytes) h = h
 length-bytes_of (Tagged pointer) h = length-image pointer
 
 pub length-bytes_in : (cells : List Cell) → All IsCell cells → length (bytes_in cells) ≡ 16 * length cells
 length-bytes_in [] all = refl
 length-bytes_in (c ∷ cs) all =
-    let first : length (bytes_of c) ≡ 16 = length-bytes_of c (All-head IsCell c cs all) in
+    let first : length (bytes_of_cell c) ≡ 16 = length-bytes_of c (All-head IsCell c cs all) in
     let rest : length (bytes_in cs) ≡ 16 * length cs = length-bytes_in cs (All-tail IsCell c cs all) in
-    omega (arith, length-append (bytes_of c) (bytes_in cs), first, rest)
+    omega (arith, length-append (bytes_of_cell c) (bytes_in cs), first, rest)
 
 -- a piece within the cells reads as so many bytes
 pub length-piece : (cells : List Cell) (at len : ℕ) → All IsCell cells → at + len ≤ 16 * length cells

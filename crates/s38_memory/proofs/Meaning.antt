@@ -5,11 +5,11 @@ use Rattle.std.proofs.lemmas.List.{take_all, drop_all, take-append-drop, take-ap
 use Rattle.std.proofs.lemmas.List.Elements.{All-head, All-tail}
 use Rattle.std.proofs.Math.Seq.{take-append-add, drop-append-add}
 use Rattle.s38_memory.specs.declared.cell.Cell.{Cell}
-use Rattle.s38_memory.specs.Cell.{IsCell, bytes_of}
-use Rattle.s38_memory.specs.Tagged.{IsBytes, IsWritten, Touches, bytes_in, overlaid, with_piece, written}
+use Rattle.s38_memory.specs.Cell.{IsCell, bytes_of_cell}
+use Rattle.s38_memory.specs.Tagged.{IsBytes, IsWritten, Touches, bytes_in, cell_with_piece, cells_written, overlaid}
 use Rattle.s38_memory.proofs.Cells.{length-bytes_of}
 
--- behind the first list
+-- after the first list
 overlaid-behind : (k : ℕ) (p b r : List ℕ) → b ++ overlaid k p r ≡ overlaid (length b + k) p (b ++ r)
 overlaid-behind k p b r =
     let front : take (length b + k) (b ++ r) ≡ b ++ take k r = take-append-add b r k in
@@ -77,34 +77,34 @@ Splits-write at p b r whole =
           subst (λ (n : ℕ). Splits at (take n p) (drop n p) b r) (sym none) (split-behind at p b r whole far))
     ]
 
-bytes_of-with_piece : (at : ℕ) (piece : List ℕ) (c : Cell) → bytes_of (with_piece at piece c) ≡ overlaid at piece (bytes_of c)
-bytes_of-with_piece at [] c = sym (overlaid-nil at (bytes_of c))
+bytes_of-with_piece : (at : ℕ) (piece : List ℕ) (c : Cell) → bytes_of_cell (cell_with_piece at piece c) ≡ overlaid at piece (bytes_of_cell c)
+bytes_of-with_piece at [] c = sym (overlaid-nil at (bytes_of_cell c))
 bytes_of-with_piece at (b ∷ bs) c = refl
 
 pub bytes_in-written : (at : ℕ) (piece : List ℕ) (cells : List Cell) → All IsCell cells → at + length piece ≤ 16 * length cells
-    → bytes_in (written at piece cells) ≡ overlaid at piece (bytes_in cells)
+    → bytes_in (cells_written at piece cells) ≡ overlaid at piece (bytes_in cells)
 bytes_in-written at [] [] all room = sym (overlaid-nil at [])
 bytes_in-written at (b ∷ bs) [] all room = absurd (omega arith)
 bytes_in-written at piece (c ∷ cs) all room =
     let front = take (16 - at) piece in
     let rest = drop (16 - at) piece in
     let whole = length-bytes_of c (All-head IsCell c cs all) in
-    let behind : bytes_in (written (at - 16) rest cs) ≡ overlaid (at - 16) rest (bytes_in cs) =
+    let behind : bytes_in (cells_written (at - 16) rest cs) ≡ overlaid (at - 16) rest (bytes_in cs) =
     bytes_in-written (at - 16) rest cs (All-tail IsCell c cs all) (omega (arith, length-drop (16 - at) piece)) in
-    ap (λ l. l ++ bytes_in (written (at - 16) rest cs)) (bytes_of-with_piece at front c) ∙ ap (λ l. overlaid at front (bytes_of c) ++ l) behind
-    ∙ Splits-write at piece (bytes_of c) (bytes_in cs) whole
-    ∙ ap (λ l. overlaid at l (bytes_of c ++ bytes_in cs)) (take-append-drop (16 - at) piece)
+    ap (λ l. l ++ bytes_in (cells_written (at - 16) rest cs)) (bytes_of-with_piece at front c) ∙ ap (λ l. overlaid at front (bytes_of_cell c) ++ l) behind
+    ∙ Splits-write at piece (bytes_of_cell c) (bytes_in cs) whole
+    ∙ ap (λ l. overlaid at l (bytes_of_cell c ++ bytes_in cs)) (take-append-drop (16 - at) piece)
 
-IsBytes-with_piece : (at : ℕ) (piece : List ℕ) (c : Cell) → 0 < length piece → IsBytes (with_piece at piece c)
+IsBytes-with_piece : (at : ℕ) (piece : List ℕ) (c : Cell) → 0 < length piece → IsBytes (cell_with_piece at piece c)
 IsBytes-with_piece at [] c some = absurd (omega arith)
 IsBytes-with_piece at (b ∷ bs) c some = tt
 
-with_piece-none : (at : ℕ) (piece : List ℕ) (c : Cell) → length piece ≤ 0 → with_piece at piece c ≡ c
+with_piece-none : (at : ℕ) (piece : List ℕ) (c : Cell) → length piece ≤ 0 → cell_with_piece at piece c ≡ c
 with_piece-none at [] c none = refl
 with_piece-none at (b ∷ bs) c none = absurd (omega arith)
 
 pub written-touched : (at : ℕ) (piece : List ℕ) (cells : List Cell) (k : ℕ) (d : Cell) → k < length cells → Touches at (length piece) k
-    → IsBytes (get_or (written at piece cells) k d)
+    → IsBytes (get_or (cells_written at piece cells) k d)
 written-touched at piece [] k d below t = absurd (omega arith)
 written-touched at piece (c ∷ cs) zero d below t =
     IsBytes-with_piece at (take (16 - at) piece) c (omega (arith, length-take (16 - at) piece, t.0, t.1, t.2))
@@ -113,7 +113,7 @@ written-touched at piece (c ∷ cs) (suc k) d below t =
     written-touched (at - 16) (drop (16 - at) piece) cs k d (omega arith) (omega (arith, size, t.0), omega (arith, size, t.1), omega (arith, size, t.1))
 
 pub written-others : (at : ℕ) (piece : List ℕ) (cells : List Cell) (k : ℕ) (d : Cell) → ¬ Touches at (length piece) k
-    → get_or (written at piece cells) k d ≡ get_or cells k d
+    → get_or (cells_written at piece cells) k d ≡ get_or cells k d
 written-others at piece [] k d far = refl
 written-others at piece (c ∷ cs) zero d far =
     let size = length-take (16 - at) piece in
@@ -126,7 +126,7 @@ written-others at piece (c ∷ cs) (suc k) d far =
     written-others (at - 16) (drop (16 - at) piece) cs k d (λ t. far (omega (arith, size, t.0), omega (arith, size, t.1), omega (arith, size, t.2)))
 
 -- the meaning of a write
-pub IsWritten-written : (at : ℕ) (piece : List ℕ) (cells new : List Cell) → All IsCell cells → at + length piece ≤ 16 * length cells → new ≡ written at piece cells
+pub IsWritten-written : (at : ℕ) (piece : List ℕ) (cells new : List Cell) → All IsCell cells → at + length piece ≤ 16 * length cells → new ≡ cells_written at piece cells
     → IsWritten at piece cells new
 IsWritten-written at piece cells new all room same =
     subst (λ (l : List Cell). IsWritten at piece cells l) (sym same)

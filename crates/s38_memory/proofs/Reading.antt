@@ -5,7 +5,7 @@ use Rattle.std.proofs.lemmas.List.Elements.{All-head, All-tail}
 use Rattle.std.proofs.Math.Seq.{drop-append-add}
 use lib.Seq.{take-add}
 use Rattle.s38_memory.specs.declared.cell.Cell.{Cell}
-use Rattle.s38_memory.specs.Cell.{IsCell, bytes_of}
+use Rattle.s38_memory.specs.Cell.{IsCell, bytes_of_cell}
 use Rattle.s38_memory.specs.Tagged.{bytes_in}
 use Rattle.s38_memory.proofs.Cells.{length-bytes_of}
 
@@ -19,14 +19,14 @@ past-first xs ys m k n same = ap (λ i. take n (drop i (xs ++ ys))) same ∙ ap 
 
 -- bytes within the cell at a place
 pub bytes_in-cell : (cells : List Cell) (k o n m : ℕ) (d : Cell) → All IsCell cells → k < length cells → o + n ≤ 16 → m ≡ 16 * k + o
-    → take n (drop m (bytes_in cells)) ≡ take n (drop o (bytes_of (get_or cells k d)))
+    → take n (drop m (bytes_in cells)) ≡ take n (drop o (bytes_of_cell (get_or cells k d)))
 bytes_in-cell [] k o n m d all in' fits same = absurd (omega arith)
 bytes_in-cell (c ∷ cs) zero o n m d all in' fits same =
     let size = length-bytes_of c (All-head IsCell c cs all) in
-    within-first (bytes_of c) (bytes_in cs) m o n (omega arith) (omega (arith, size))
+    within-first (bytes_of_cell c) (bytes_in cs) m o n (omega arith) (omega (arith, size))
 bytes_in-cell (c ∷ cs) (suc k) o n m d all in' fits same =
     let size = length-bytes_of c (All-head IsCell c cs all) in
-    past-first (bytes_of c) (bytes_in cs) m (16 * k + o) n (omega (arith, size))
+    past-first (bytes_of_cell c) (bytes_in cs) m (16 * k + o) n (omega (arith, size))
     ∙ bytes_in-cell cs k o n (16 * k + o) d (All-tail IsCell c cs all) (omega arith) fits refl
 
 -- what was read so far, and the part of one cell more
@@ -44,7 +44,7 @@ read-more all into front rest post at done n m within size so_far next place =
 -- the next cell's part, where the read goes over its front
 pub read-step : (cells : List Cell) (into sub rest post : List ℕ) (at done n : ℕ) (d : Cell) → All IsCell cells → done ≤ length into
     → at + done < 16 * length cells → n ≤ 16 - (at + done) % 16
-    → sub ≡ take n (drop ((at + done) % 16) (bytes_of (get_or cells ((at + done) / 16) d))) ++ rest
+    → sub ≡ take n (drop ((at + done) % 16) (bytes_of_cell (get_or cells ((at + done) / 16) d))) ++ rest
     → take done into ≡ take done (drop at (bytes_in cells))
     → take (done + n) (take done into ++ (sub ++ post)) ≡ take (done + n) (drop at (bytes_in cells))
 read-step cells into sub rest post at done n d all within room fits filled so_far =
@@ -53,8 +53,8 @@ read-step cells into sub rest post at done n d all within room fits filled so_fa
     let below : k < length cells = omega arith in
     let cell = get_or cells k d in
     let whole = length-bytes_of cell (all k d below) in
-    let front = take n (drop o (bytes_of cell)) in
-    let size : length front ≡ n = length-take-le n (drop o (bytes_of cell)) (omega (arith, length-drop o (bytes_of cell), whole)) in
+    let front = take n (drop o (bytes_of_cell cell)) in
+    let size : length front ≡ n = length-take-le n (drop o (bytes_of_cell cell)) (omega (arith, length-drop o (bytes_of_cell cell), whole)) in
     let place : at + done ≡ 16 * k + o = omega arith in
     let next : front ≡ take n (drop (at + done) (bytes_in cells)) = sym (bytes_in-cell cells k o n (at + done) d all below (omega arith) place) in
     ap (λ l. take (done + n) (take done into ++ (l ++ post))) filled ∙ read-more (bytes_in cells) into front rest post at done n (at + done) within size so_far next refl

@@ -2,11 +2,11 @@
 use Rattle.std.specs.Prelude.{◌≡◌, ℕ, List, length}
 use Rattle.s38_memory.specs.declared.cell.Cell.{Cell}
 use Rattle.s38_memory.specs.declared.cell.Cell.TheVariants.{Bytes, Tagged}
-use Rattle.s38_memory.specs.Image.{image, HasImage}
+use Rattle.s38_memory.specs.Image.{HasImage, image}
 
-abbrev pub bytes_of : Cell → List ℕ
-bytes_of (Bytes bytes) = bytes
-bytes_of (Tagged pointer) = image pointer
+abbrev pub bytes_of_cell : Cell → List ℕ
+bytes_of_cell (Bytes bytes) = bytes
+bytes_of_cell (Tagged pointer) = image pointer
 
 -- sixteen bytes, or a pointer that has an image
 abbrev pub IsCell : Cell → Type 0

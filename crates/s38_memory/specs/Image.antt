@@ -38,8 +38,8 @@ HasImage (Space object offset) = (object.0 < 2 ^ 64) × (offset < 2 ^ 32)
 HasImage (Item object offset attr) = (object.0 < 2 ^ 64) × (offset < 2 ^ 32) × HasAttrImage attr
 
 -- the attribute that three bytes of detail may show
-abbrev pub attr_at : List ℕ → Option Attr
-attr_at bytes =
+abbrev pub attr_in_detail : List ℕ → Option Attr
+attr_in_detail bytes =
     if slice_index bytes 1 == 1 then Some (Packed (slice_index bytes 2) (slice_index bytes 3))
     else (if slice_index bytes 1 == 2 then Some (Zoned (slice_index bytes 2) (slice_index bytes 3))
     else (if slice_index bytes 1 == 3 then Some (Binary (slice_index bytes 3))
@@ -50,7 +50,7 @@ unfoldable pub candidate : List ℕ → Option Pointer
 candidate bytes =
     if slice_index bytes 0 == 1 then Some (System (record { 0 = big_number 8 (drop 8 bytes) }) (record { 0 = slice_index bytes 1 }))
     else (if slice_index bytes 0 == 2 then Some (Space (record { 0 = big_number 8 (drop 8 bytes) }) (big_number 4 (drop 4 bytes)))
-    else (if slice_index bytes 0 == 3 then option_and_then (λ attr. Some (Item (record { 0 = big_number 8 (drop 8 bytes) }) (big_number 4 (drop 4 bytes)) attr)) (attr_at bytes) else None))
+    else (if slice_index bytes 0 == 3 then option_and_then (λ attr. Some (Item (record { 0 = big_number 8 (drop 8 bytes) }) (big_number 4 (drop 4 bytes)) attr)) (attr_in_detail bytes) else None))
 
 -- no pointer to an item that is a pointer: of such a one there is no image
 abbrev pub IsNoPointer : Attr → Type 0
@@ -60,6 +60,6 @@ IsNoPointer (Binary size) = Unit {0}
 IsNoPointer (Chars len) = Unit {0}
 IsNoPointer _ = ⊥
 
-abbrev pub IsStorable : Pointer → Type 0
-IsStorable (Item object offset attr) = IsNoPointer attr
-IsStorable _ = Unit {0}
+abbrev pub PointerHasImage : Pointer → Type 0
+PointerHasImage (Item object offset attr) = IsNoPointer attr
+PointerHasImage _ = Unit {0}

@@ -6,7 +6,7 @@ use Rattle.s38_memory.specs.declared.cell.Cell.{Cell}
 use Rattle.s38_memory.specs.declared.cell.Cell.TheVariants.{Bytes, Tagged}
 use Rattle.s38_memory.specs.declared.fault.MemoryFault.{MemoryFault}
 use Rattle.s38_memory.specs.declared.fault.MemoryFault.TheVariants.{Bounds, Alignment, NoPointer}
-use Rattle.s38_memory.specs.Cell.{bytes_of, IsCell}
+use Rattle.s38_memory.specs.Cell.{IsCell, bytes_of_cell}
 
 -- one cell at least, and at most 16,777,216 bytes; each holds sixteen bytes or a pointer that has an image
 pub record IsStorage (cells : List Cell) : Type 0 where
@@ -20,17 +20,17 @@ overlaid at piece xs = take at xs ++ (piece ++ drop (at + length piece) xs)
 
 -- what the cells read as
 abbrev pub bytes_in : List Cell → List ℕ
-bytes_in cells = flat_map bytes_of cells
+bytes_in cells = flat_map bytes_of_cell cells
 
 -- a cell after a piece was written over its bytes: it holds bytes, unless the piece is empty
-abbrev pub with_piece : ℕ → List ℕ → Cell → Cell
-with_piece at [] cell = cell
-with_piece at (b ∷ bs) cell = Bytes (overlaid at (b ∷ bs) (bytes_of cell))
+abbrev pub cell_with_piece : ℕ → List ℕ → Cell → Cell
+cell_with_piece at [] cell = cell
+cell_with_piece at (b ∷ bs) cell = Bytes (overlaid at (b ∷ bs) (bytes_of_cell cell))
 
 -- cells after a piece was written over them: each takes what falls into it
-abbrev pub written : ℕ → List ℕ → List Cell → List Cell
-written at piece [] = []
-written at piece (cell ∷ cells) = with_piece at (take (16 - at) piece) cell ∷ written (at - 16) (drop (16 - at) piece) cells
+abbrev pub cells_written : ℕ → List ℕ → List Cell → List Cell
+cells_written at piece [] = []
+cells_written at piece (cell ∷ cells) = cell_with_piece at (take (16 - at) piece) cell ∷ cells_written (at - 16) (drop (16 - at) piece) cells
 
 -- the cells in a range of bytes
 abbrev pub cells_in : ℕ → ℕ → List Cell → List Cell
@@ -48,9 +48,9 @@ abbrev pub is_aligned : ℕ → Bool
 is_aligned at = at % 16 == 0
 
 -- nothing is refused, or what is
-abbrev pub answer : Option MemoryFault → Result (Unit {0}) MemoryFault
-answer None = Ok tt
-answer (Some fault) = Err fault
+abbrev pub answer_of_fault : Option MemoryFault → Result (Unit {0}) MemoryFault
+answer_of_fault None = Ok tt
+answer_of_fault (Some fault) = Err fault
 
 -- why a piece of bytes is refused
 abbrev pub piece_fault : ℕ → ℕ → List Cell → Option MemoryFault
@@ -66,17 +66,17 @@ copy_fault to target from source len =
     if is_within to len target && is_within from len source then (if is_aligned to && is_aligned from then None else Some Alignment)
     else Some Bounds
 
-abbrev pub pointer_in : Option Cell → Result Pointer MemoryFault
-pointer_in (Some (Tagged pointer)) = Ok pointer
-pointer_in _ = Err NoPointer
+abbrev pub pointer_in_cell : Option Cell → Result Pointer MemoryFault
+pointer_in_cell (Some (Tagged pointer)) = Ok pointer
+pointer_in_cell _ = Err NoPointer
 
 abbrev pub unless_refused : Option MemoryFault → Result Pointer MemoryFault → Result Pointer MemoryFault
 unless_refused None found = found
 unless_refused (Some fault) found = Err fault
 
 -- the pointer at a place, or why there is none
-abbrev pub pointer_at : ℕ → List Cell → Result Pointer MemoryFault
-pointer_at at cells = unless_refused (cells_fault at 16 cells) (pointer_in (slice_get cells (at / 16)))
+abbrev pub pointer_at_offset : ℕ → List Cell → Result Pointer MemoryFault
+pointer_at_offset at cells = unless_refused (cells_fault at 16 cells) (pointer_in_cell (slice_get cells (at / 16)))
 
 -- the cell at place k has a byte of the piece
 abbrev pub Touches : ℕ → ℕ → ℕ → Type 0

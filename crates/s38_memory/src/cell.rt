@@ -1,6 +1,6 @@
 ghost use Rattle.std.specs.Prelude.{◌≡◌, ◌+◌, ◌-◌, ◌<◌, ◌≤◌, ◌++◌, length, min, take, drop};
 ghost use Rattle.s38_memory.specs.declared.cell.Cell.TheVariants.{Bytes};
-ghost use Rattle.s38_memory.specs.Cell.{IsCell, bytes_of};
+ghost use Rattle.s38_memory.specs.Cell.{IsCell, bytes_of_cell};
 ghost use Rattle.s38_memory.specs.Tagged.{overlaid};
 
 use crate::image::image_of;
@@ -22,7 +22,7 @@ impl Cell {
     /// The bytes that a cell reads as: a pointer's are its image.
     pub fn bytes(&self) -> [u8; 16]
         requires { IsCell self.now }
-        ensures bytes { result ≡ bytes_of self.now }
+        ensures bytes { result ≡ bytes_of_cell self.now }
         ensures length { length result ≡ 16 }
     {
         match self {
@@ -37,7 +37,7 @@ pub fn read_cell(cell: &Cell, at: usize, into: &mut [u8]) -> usize
     requires cell { IsCell cell.now }
     requires place { at < 16 }
     ensures count { result ≡ min (length into.old) (16 - at) }
-    ensures read { into.new ≡ take result (drop at (bytes_of cell.now)) ++ drop result into.old }
+    ensures read { into.new ≡ take result (drop at (bytes_of_cell cell.now)) ++ drop result into.old }
 {
     let bytes = cell.bytes();
     let count = into.len().min(CELL - at);
@@ -49,7 +49,7 @@ pub fn read_cell(cell: &Cell, at: usize, into: &mut [u8]) -> usize
 pub fn overlaid(cell: &Cell, at: usize, piece: &[u8]) -> Cell
     requires cell { IsCell cell.now }
     requires place { at + length piece.now ≤ 16 }
-    ensures cell { result ≡ Bytes (overlaid at piece.now (bytes_of cell.now)) }
+    ensures cell { result ≡ Bytes (overlaid at piece.now (bytes_of_cell cell.now)) }
     ensures whole { IsCell result }
 {
     let mut bytes = cell.bytes();

@@ -1,7 +1,7 @@
 ghost use Rattle.std.specs.Prelude.{◌≡◌, ◌↔◌, ◌∷◌, [], IfSome, IsTrue, Some, drop, length};
 ghost use Rattle.byteorder.specs.Endian.{big_number};
 ghost use Rattle.s38_base.specs.declared.pointer.Pointer.{Pointer};
-ghost use Rattle.s38_memory.specs.Image.{HasImage, attr_at, attr_image, candidate, fields, image};
+ghost use Rattle.s38_memory.specs.Image.{HasImage, attr_image, attr_in_detail, candidate, fields, image};
 
 use byteorder::{BigEndian, ByteOrder};
 use s38_base::{Attr, ObjNum, Pointer, Rights};
@@ -69,7 +69,7 @@ fn object_at(bytes: &[u8; 16]) -> ObjNum
 
 /// The attribute in the second to the fourth byte of an image.
 fn attr_at(bytes: &[u8; 16]) -> Option<Attr>
-    ensures { result ≡ attr_at bytes.now }
+    ensures { result ≡ attr_in_detail bytes.now }
 {
     let (first, second) = (bytes[2], bytes[3]);
     match bytes[1] {

@@ -1,7 +1,7 @@
 //! The calls of the storage, over its cells.
 ghost use Rattle.std.specs.Prelude.{◌≡◌, ◌+◌, ◌*◌, ◌≤◌, true, All, length, take, drop};
 ghost use Rattle.s38_memory.specs.Cell.{IsCell};
-ghost use Rattle.s38_memory.specs.Tagged.{IsWritten, answer, bytes_in, cells_fault, copy_fault, is_aligned, is_within, piece_fault, pointer_at, written};
+ghost use Rattle.s38_memory.specs.Tagged.{IsWritten, answer_of_fault, bytes_in, cells_fault, cells_written, copy_fault, is_aligned, is_within, piece_fault, pointer_at_offset};
 
 use crate::cell::{CELL, Cell, overlaid, read_cell};
 use crate::fault::MemoryFault;
@@ -37,7 +37,7 @@ pub fn has_piece(cells: &[Cell], at: u64, len: usize) -> bool
 /// `Bounds` exactly where a piece of bytes leaves the cells.
 pub fn check_piece(cells: &[Cell], at: u32, len: usize) -> Result<(), MemoryFault>
     requires { length cells.now ≤ 1048576 }
-    ensures { result ≡ answer (piece_fault at len cells.now) }
+    ensures { result ≡ answer_of_fault (piece_fault at len cells.now) }
 {
     if is_within(cells, at, len) {
         Ok(())
@@ -49,7 +49,7 @@ pub fn check_piece(cells: &[Cell], at: u32, len: usize) -> Result<(), MemoryFaul
 /// The same for whole cells, and then `Alignment` exactly where they don't begin with one.
 pub fn check_cells(cells: &[Cell], at: u32, len: usize) -> Result<(), MemoryFault>
     requires { length cells.now ≤ 1048576 }
-    ensures { result ≡ answer (cells_fault at len cells.now) }
+    ensures { result ≡ answer_of_fault (cells_fault at len cells.now) }
 {
     check_piece(cells, at, len)?;
     if is_aligned(at) {
@@ -69,7 +69,7 @@ pub fn check_copy(
 ) -> Result<(), MemoryFault>
     requires target { length target.now ≤ 1048576 }
     requires source { length source.now ≤ 1048576 }
-    ensures { result ≡ answer (copy_fault to target.now from source.now len) }
+    ensures { result ≡ answer_of_fault (copy_fault to target.now from source.now len) }
 {
     check_piece(target, to, len)?;
     check_piece(source, from, len)?;
@@ -83,7 +83,7 @@ pub fn check_copy(
 /// The pointer at a place; then `NoPointer` exactly where the cell holds bytes.
 pub fn pointer_at(cells: &[Cell], at: u32) -> Result<Pointer, MemoryFault>
     requires { length cells.now ≤ 1048576 }
-    ensures { result ≡ pointer_at at cells.now }
+    ensures { result ≡ pointer_at_offset at cells.now }
 {
     check_cells(cells, at, CELL)?;
     match cells[at as usize / CELL] {
@@ -109,7 +109,7 @@ pub fn read(cells: &[Cell], at: usize, into: &mut [u8])
 pub fn write(cells: &mut [Cell], at: usize, piece: &[u8])
     requires room { at + length piece.now ≤ 16 * length cells.old }
     requires cells { All IsCell cells.old }
-    ensures written { cells.new ≡ written at piece.now cells.old }
+    ensures written { cells.new ≡ cells_written at piece.now cells.old }
     ensures meaning { IsWritten at piece.now cells.old cells.new }
     ensures cells { All IsCell cells.new }
 {

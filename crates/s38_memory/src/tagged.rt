@@ -1,8 +1,8 @@
 ghost use Rattle.std.specs.Prelude.{◌≡◌, ◌+◌, ◌*◌, ◌/◌, ◌%◌, ◌<◌, ◌≤◌, true, [], All, IfOk, IsOkUnless, OnErr, OnOk, drop, length, slice_set, take};
 ghost use Rattle.s38_memory.specs.declared.cell.Cell.TheVariants.{Tagged as Pointing};
 ghost use Rattle.s38_memory.specs.Cell.{IsCell};
-ghost use Rattle.s38_memory.specs.Image.{IsStorable};
-ghost use Rattle.s38_memory.specs.Tagged.{IsStorage, IsWritten, answer, bytes_in, cells_fault, cells_in, copy_fault, is_within, overlaid, piece_fault, pointer_at, resized, written};
+ghost use Rattle.s38_memory.specs.Image.{PointerHasImage};
+ghost use Rattle.s38_memory.specs.Tagged.{IsStorage, IsWritten, answer_of_fault, bytes_in, cells_fault, cells_in, cells_written, copy_fault, is_within, overlaid, piece_fault, pointer_at_offset, resized};
 
 use crate::cell::{CELL, Cell};
 use crate::fault::MemoryFault;
@@ -85,7 +85,7 @@ impl Tagged {
     /// Reads the bytes from a place on; a pointer reads as its image. `Bounds` exactly where the piece leaves
     /// the storage.
     pub fn read(&self, at: u32, into: &mut [u8]) -> Result<(), MemoryFault>
-        ensures answer { result ≡ answer (piece_fault at (length into.old) self.now) }
+        ensures answer { result ≡ answer_of_fault (piece_fault at (length into.old) self.now) }
         ensures ok { OnOk result (into.new ≡ take (length into.old) (drop at (bytes_in self.now))) }
         ensures err { OnErr result (into.new ≡ into.old) }
     {
@@ -97,8 +97,8 @@ impl Tagged {
     /// Writes a piece of bytes from a place on. Each cell that it touches holds bytes afterwards, those that
     /// it leaves being the bytes of the pointer's image. `Bounds` exactly where the piece leaves the storage.
     pub fn write(&mut self, at: u32, from: &[u8]) -> Result<(), MemoryFault>
-        ensures answer { result ≡ answer (piece_fault at (length from.now) self.old) }
-        ensures ok { OnOk result (self.new ≡ written at from.now self.old) }
+        ensures answer { result ≡ answer_of_fault (piece_fault at (length from.now) self.old) }
+        ensures ok { OnOk result (self.new ≡ cells_written at from.now self.old) }
         ensures meaning { OnOk result (IsWritten at from.now self.old self.new) }
         ensures err { OnErr result (self.new ≡ self.old) }
     {
@@ -110,15 +110,15 @@ impl Tagged {
     /// The pointer at a place. `Bounds` exactly where its sixteen bytes leave the storage, then `Alignment`
     /// exactly where the place is no multiple of 16, then `NoPointer` exactly where the cell holds bytes.
     pub fn get_pointer(&self, at: u32) -> Result<Pointer, MemoryFault>
-        ensures { result ≡ pointer_at at self.now }
+        ensures { result ≡ pointer_at_offset at self.now }
     {
         pointer_at(&self.cells, at)
     }
 
     /// Puts a pointer into the cell at a place. `Bounds`, then `Alignment`, as for `get_pointer`.
     pub fn set_pointer(&mut self, at: u32, pointer: Pointer) -> Result<(), MemoryFault>
-        requires { IsStorable pointer }
-        ensures answer { result ≡ answer (cells_fault at 16 self.old) }
+        requires { PointerHasImage pointer }
+        ensures answer { result ≡ answer_of_fault (cells_fault at 16 self.old) }
         ensures ok { OnOk result (self.new ≡ slice_set self.old (at / 16) (Pointing pointer)) }
         ensures err { OnErr result (self.new ≡ self.old) }
     {
@@ -131,7 +131,7 @@ impl Tagged {
     /// one of the pieces leaves the storage, then `Alignment` exactly where one begins within a cell.
     pub fn copy_with_pointers(&mut self, to: u32, from: u32, len: u32) -> Result<(), MemoryFault>
         requires { len % 16 ≡ 0 }
-        ensures answer { result ≡ answer (copy_fault to self.old from self.old len) }
+        ensures answer { result ≡ answer_of_fault (copy_fault to self.old from self.old len) }
         ensures ok { OnOk result (self.new ≡ overlaid (to / 16) (cells_in from len self.old) self.old) }
         ensures err { OnErr result (self.new ≡ self.old) }
     {
@@ -154,7 +154,7 @@ impl Tagged {
         len: u32,
     ) -> Result<(), MemoryFault>
         requires { len % 16 ≡ 0 }
-        ensures answer { result ≡ answer (copy_fault to self.old from other.now len) }
+        ensures answer { result ≡ answer_of_fault (copy_fault to self.old from other.now len) }
         ensures ok { OnOk result (self.new ≡ overlaid (to / 16) (cells_in from len other.now) self.old) }
         ensures err { OnErr result (self.new ≡ self.old) }
     {
@@ -170,7 +170,7 @@ impl Tagged {
     /// storage, then `Alignment` exactly where the place is no multiple of 16.
     pub fn put_cells(&mut self, at: u32, piece: &[Cell]) -> Result<(), MemoryFault>
         requires { All IsCell piece.now }
-        ensures answer { result ≡ answer (cells_fault at (16 * length piece.now) self.old) }
+        ensures answer { result ≡ answer_of_fault (cells_fault at (16 * length piece.now) self.old) }
         ensures ok { OnOk result (self.new ≡ overlaid (at / 16) piece.now self.old) }
         ensures err { OnErr result (self.new ≡ self.old) }
     {
@@ -198,7 +198,7 @@ impl Tagged {
 
 fn put(cells: &mut [Cell], place: usize, pointer: Pointer)
     requires place { place < length cells.old }
-    requires pointer { IsStorable pointer }
+    requires pointer { PointerHasImage pointer }
     requires cells { All IsCell cells.old }
     ensures cells { cells.new ≡ slice_set cells.old place (Pointing pointer) }
     ensures whole { All IsCell cells.new }

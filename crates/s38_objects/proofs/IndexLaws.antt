@@ -10,10 +10,10 @@ use Rattle.std.specs.BTreeMap.{BTreeMap, IsOrdered, get, insert_entry, is_at, va
 use Rattle.s38_base.specs.declared.id.Id.{Id}
 use Rattle.s38_base.specs.declared.id.ObjNum.{ObjNum}
 use Rattle.s38_rules.specs.declared.object.Object.{Object}
-use Rattle.s38_rules.specs.Held.{change_in, found, found_in, is_named, number_found, number_in, object_in}
+use Rattle.s38_rules.specs.state.Held.{change_in, found, found_in, is_named, number_found, number_in, object_in}
 use Rattle.s38_objects.specs.declared.name_key.NameKey.{NameKey}
 use Rattle.s38_objects.specs.Changes.{KeepsName, changed_at}
-use Rattle.s38_objects.specs.Lawful.{IsLawful, is_place_of, number_of}
+use Rattle.s38_objects.specs.Lawful.{IsObjectMap, is_place_of, number_of}
 use Rattle.s38_objects.specs.Indexed.{AreNames, AreNumbered, IsIndexed, is_open}
 use Rattle.s38_objects.specs.NameOrder.{key, name_cmp}
 use Rattle.s38_objects.proofs.NumberLaws.{found_by_number, given_there, insert_last, keys_changed, none_ahead, numbered_changed, numbered_last, numbered_raised, numbered_without, nat_same, open_changed, open_last, open_raised, open_there, open_without, values_changed, values_last, values_without}
@@ -200,7 +200,7 @@ all_given : (next : ℕ) (es : List (ℕ × Object)) → AreNumbered next es →
 all_given next [] h = All-nil (λ o. number_of o < next)
 all_given next (e ∷ es) h = All-cons (λ o. number_of o < next) e.1 (values_of es) (rw h.0 h.1) (all_given next es h.3)
 
-pub lawful : (m : BTreeMap ℕ Object) (names : BTreeMap NameKey ℕ) (next ceiling : ℕ) → IsIndexed m names next → IsLawful (record { objects = values m; next = next; ceiling = ceiling })
+pub lawful : (m : BTreeMap ℕ Object) (names : BTreeMap NameKey ℕ) (next ceiling : ℕ) → IsIndexed m names next → IsObjectMap (record { objects = values m; next = next; ceiling = ceiling })
 lawful m names next ceiling h = record {
   rising = rw (numbers_are_keys next m.entries h.numbered) (IsStrictlyIncreasing-from_sorted (keys_of m.entries) h.ordered);
   given = all_given next m.entries h.numbered;

@@ -17,11 +17,11 @@ use Rattle.s38_profiles.specs.Rows.{Rows, SetsRow, row_at, row_key, row_with}
 use Rattle.s38_profiles.specs.Users.{SetsUser, Users, charge_in as charge_of, user_at}
 use Rattle.s38_rules.specs.declared.object.Object.{Object}
 use Rattle.s38_rules.specs.declared.rows.PrivateRow.{PrivateRow}
-use Rattle.s38_rules.specs.Headers.{row_in}
-use Rattle.s38_rules.specs.Held.{charge_in, object_in, pages_of}
-use Rattle.s38_rules.specs.Keeping.{AreKeptRows, AreUsers, IsUser, paid, paying}
-use Rattle.s38_rules.specs.Kept.{kept_profile, kept_row, profile_by}
-use Rattle.s38_rules.specs.PrivateRows.{AreRows, IsAbove, is_row, rights_in, row_of}
+use Rattle.s38_rules.specs.state.Headers.{rights_in_row}
+use Rattle.s38_rules.specs.state.Held.{charge_in, object_in, pages_of}
+use Rattle.s38_rules.specs.state.Keeping.{AreKeptRows, AreUsers, IsUser, paid, paying}
+use Rattle.s38_rules.specs.state.Kept.{kept_profile, kept_row, profile_by}
+use Rattle.s38_rules.specs.state.PrivateRows.{AreRows, IsAbove, is_row, rights_in, row_of}
 use Rattle.s38_rules.proofs.ChargeLaws.{AreRising, charge_both, charge_first, charge_last, charge_none, number_of, object_last, own_pages, rising_by}
 use Rattle.s38_rules.proofs.UserLaws.{charge_kept, charge_most, user_paid, user_set, users_by}
 
@@ -42,7 +42,7 @@ fresh (x ∷ gone) rest o rising =
     let off : (x.number.0 == o.number.0) ≡ false = grind (arith, nat_tests) in
     rw off (fresh gone rest o (sorted_tail nat_cmp x.number.0 (map number_of (gone ++ o ∷ rest)) rising))
 
--- where a loop over all objects stands: those gone over, the one at hand and the rest
+-- where a loop over all objects is: those gone over, the one at hand and the rest
 pub at_hand : (os : List Object) (xs : List (Bor Object)) (s t u : List Object) (r : Option (Bor Object)) (x : Bor Object) → s ≡ os → Yields (TakesFirst deref) s xs t → r ≡ Some x → TakesFirst deref t r u
     → os ≡ map deref xs ++ x.now ∷ u
 at_hand os xs s t u r x start y is step =
@@ -137,11 +137,11 @@ pub rows_more : (rows after : Rows) (gone : List Object) (o : Object) → object
 rows_more rows after gone o none h set user n =
     set user n
     ∙ ap (λ (x : Option Rights). cond (o.number.0 == n) (kept_row (row_of o.rows user)) x) (h user n)
-    ∙ elim (o.number.0 == n) as (λ c. cond c (kept_row (row_of o.rows user)) (kept_row (row_in (object_in gone n) user)) ≡ kept_row (row_in (cond c (Some o) (object_in gone n)) user)) [ true ↦ refl | false ↦ refl ]
-    ∙ sym (ap (λ (x : Option Object). kept_row (row_in x user)) (object_last n o gone none))
+    ∙ elim (o.number.0 == n) as (λ c. cond c (kept_row (row_of o.rows user)) (kept_row (rights_in_row (object_in gone n) user)) ≡ kept_row (rights_in_row (cond c (Some o) (object_in gone n)) user)) [ true ↦ refl | false ↦ refl ]
+    ∙ sym (ap (λ (x : Option Object). kept_row (rights_in_row x user)) (object_last n o gone none))
 
 pub no_rows_yet : (rows : Rows) (gone : List Object) (o : Object) → object_in gone o.number.0 ≡ None → AreKeptRows rows gone → (user : ℕ) → row_at rows (row_key user o.number.0) ≡ None
-no_rows_yet rows gone o none h user = h user o.number.0 ∙ ap (λ (x : Option Object). kept_row (row_in x user)) none
+no_rows_yet rows gone o none h user = h user o.number.0 ∙ ap (λ (x : Option Object). kept_row (rights_in_row x user)) none
 
 above_prefix : (low : ℕ) (rows more : List PrivateRow) → IsAbove low (rows ++ more) → IsAbove low rows
 above_prefix low [] more above = tt

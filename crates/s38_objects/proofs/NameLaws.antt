@@ -14,7 +14,7 @@ use Rattle.s38_base.specs.declared.id.Id.{Id}
 use Rattle.s38_base.specs.declared.id.ObjNum.{ObjNum}
 use Rattle.s38_base.specs.Ids.{kind_code, same_id}
 use Rattle.s38_rules.specs.declared.object.Object.{Object}
-use Rattle.s38_rules.specs.Held.{change_in, found_in, has_number, is_in_context, is_named}
+use Rattle.s38_rules.specs.state.Held.{change_in, found_in, has_number, is_in_context, is_named}
 use Rattle.s38_objects.specs.Changes.{KeepsName}
 use Rattle.s38_objects.specs.declared.name_key.NameKey.{NameKey}
 use Rattle.s38_objects.specs.Lawful.{AreApart, number_of}
@@ -96,10 +96,6 @@ names_updated here a k w old new e inside h there b =
     let at : is_at (name_cmp k) (key there b) ≡ is_found_by here a there b = ap (λ (x : NameKey). is_at (name_cmp x) (key there b)) e ∙ key_found here a there b (in_a_context here inside) in
     h (key there b) ∙ ap (λ (t : Bool). cond t w (get name_cmp old (key there b))) at
 
--- no name leads into no context
-pub never_found : (here : ℕ) (a : Id) (there : ℕ) (b : Id) → here ≡ 0 → is_found_by here a there b ≡ false
-never_found here a there b h = grind (arith, nat_tests)
-
 -- ---- one more object
 
 pub none_first : (b : Bool) (x : Object) (r : Option Object) → cond b (Some x) r ≡ None → b ≡ false
@@ -129,10 +125,6 @@ text_itself (x ∷ xs) = rw (text_itself xs) (grind (arith, nat_tests))
 id_itself : (a : Id) → same_id a a ≡ true
 unfolding same_id
 id_itself a = rw (text_itself a.name) (grind (arith, nat_tests))
-
--- what is named is named by its own context and identification
-named_itself : (o : Object) (context : ℕ) (id : Id) → is_named context id o ≡ true → is_named o.context.0 o.id o ≡ true
-named_itself o context id h = sym (named_like o o context id h) ∙ h
 
 pub named_other_way : (o x : Object) → is_named x.context.0 x.id o ≡ true → is_named o.context.0 o.id x ≡ true
 named_other_way o x h =
@@ -182,7 +174,7 @@ apart_without contexts test (e ∷ es) h =
       | false ↦ ((λ there. none_without test e.1.context.0 e.1.id es (h.0 there)), rest)
     ]
 
--- what stands at a number is not named where no object is
+-- the object of a number is not named where no object is
 not_named_at : (test : ℕ → Bool) (o : Object) (context : ℕ) (id : Id) (es : List (ℕ × Object)) → lookup test es ≡ Some o → found_in (values_of es) context id ≡ None → is_named context id o ≡ false
 not_named_at test o context id [] h none = absurd (cc)
 not_named_at test o context id (e ∷ es) h none =

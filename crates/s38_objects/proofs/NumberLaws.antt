@@ -13,12 +13,12 @@ use Rattle.std.specs.Map.{keys_of, values_of, lookup, remove_entry, set_value}
 use Rattle.std.specs.BTreeMap.{insert_entry, is_at}
 use Rattle.s38_base.specs.declared.id.Id.{Id}
 use Rattle.s38_rules.specs.declared.object.Object.{Object}
-use Rattle.s38_rules.specs.Held.{change_in, found_in, has_number, is_named, object_in, without_in}
+use Rattle.s38_rules.specs.state.Held.{change_in, found_in, has_number, is_named, object_in, without_in}
 use Rattle.s38_objects.specs.Changes.{changed_at}
 use Rattle.s38_objects.specs.Lawful.{number_of}
 use Rattle.s38_objects.specs.Indexed.{AreNumbered, is_open}
 
--- ---- what stands at a number
+-- ---- the object of a number
 
 pub nat_same : (a b : ℕ) → (a == b) ≡ true → a ≡ b
 nat_same a b h = grind (arith, nat_tests)

@@ -8,8 +8,8 @@ use Rattle.std.specs.Ordering.{nat_cmp}
 use Rattle.std.specs.Map.{lookup}
 use Rattle.std.specs.BTreeMap.{BTreeMap, is_at, values}
 use Rattle.s38_rules.specs.declared.object.Object.{Object}
-use Rattle.s38_rules.specs.Headers.{row_in}
-use Rattle.s38_rules.specs.Held.{Held, change, change_in, has_number, object, object_in}
+use Rattle.s38_rules.specs.state.Headers.{rights_in_row}
+use Rattle.s38_rules.specs.state.Held.{Held, change, change_in, has_number, object, object_in}
 use Rattle.s38_objects.specs.declared.name_key.NameKey.{NameKey}
 use Rattle.s38_objects.specs.Lawful.{is_place, number_of}
 use Rattle.s38_objects.specs.Indexed.{AreNumbered, IsIndexed}
@@ -71,13 +71,13 @@ neither false r m = refl
 
 -- the rows of users after the row of one user on one object changed
 pub rows_changed : (number n user u r : ℕ) (f : Object → Object) (os : List Object) → ((o : Object) → number_of (f o) ≡ number_of o) →
-    ((v : ℕ) → row_in (option_map f (object_in os number)) v ≡ cond (is_some (object_in os number) && (user == v)) r (row_in (object_in os number) v)) →
-    row_in (object_in (change_in os number f) n) u ≡ cond (is_some (object_in os number) && ((number == n) && (user == u))) r (row_in (object_in os n) u)
+    ((v : ℕ) → rights_in_row (option_map f (object_in os number)) v ≡ cond (is_some (object_in os number) && (user == v)) r (rights_in_row (object_in os number) v)) →
+    rights_in_row (object_in (change_in os number f) n) u ≡ cond (is_some (object_in os number) && ((number == n) && (user == u))) r (rights_in_row (object_in os n) u)
 rows_changed number n user u r f os same set =
-    ap (λ (o : Option Object). row_in o u) (object_changed number n f os same)
-    ∙ elim (number == n) as (λ b. (number == n) ≡ b → row_in (cond b (option_map f (object_in os number)) (object_in os n)) u ≡ cond (is_some (object_in os number) && (b && (user == u))) r (row_in (object_in os n) u)) [
-      | true ↦ λ q. set u ∙ ap (λ (k : ℕ). cond (is_some (object_in os number) && (user == u)) r (row_in (object_in os k) u)) (nat_same number n q)
-      | false ↦ λ q. neither (is_some (object_in os number)) r (row_in (object_in os n) u)
+    ap (λ (o : Option Object). rights_in_row o u) (object_changed number n f os same)
+    ∙ elim (number == n) as (λ b. (number == n) ≡ b → rights_in_row (cond b (option_map f (object_in os number)) (object_in os n)) u ≡ cond (is_some (object_in os number) && (b && (user == u))) r (rights_in_row (object_in os n) u)) [
+      | true ↦ λ q. set u ∙ ap (λ (k : ℕ). cond (is_some (object_in os number) && (user == u)) r (rights_in_row (object_in os k) u)) (nat_same number n q)
+      | false ↦ λ q. neither (is_some (object_in os number)) r (rights_in_row (object_in os n) u)
     ] refl
 
 -- ---- which contexts an object may say

@@ -12,8 +12,8 @@ use Rattle.std.specs.BTreeMap.{BTreeMap, get, is_at, values}
 use Rattle.s38_base.specs.declared.id.Id.{Id}
 use Rattle.s38_base.specs.declared.id.ObjNum.{ObjNum}
 use Rattle.s38_rules.specs.declared.object.Object.{Object}
-use Rattle.s38_rules.specs.Creation.{is_another}
-use Rattle.s38_rules.specs.Held.{change_in, found_in, has_number, is_named, object_in}
+use Rattle.s38_rules.specs.families.Creation.{is_another}
+use Rattle.s38_rules.specs.state.Held.{change_in, found_in, has_number, is_named, object_in}
 use Rattle.s38_objects.specs.declared.name_key.NameKey.{NameKey}
 use Rattle.s38_objects.specs.Changes.{changed_at, placed}
 use Rattle.s38_objects.specs.Lawful.{AreApart, number_of}

@@ -14,9 +14,9 @@ use Rattle.std.specs.Map.{keys_of}
 use Rattle.std.specs.BTreeMap.{BTreeMap, IsOrdered, get, insert_entry, values}
 use Rattle.s38_base.specs.declared.id.Id.{Id}
 use Rattle.s38_rules.specs.declared.object.Object.{Object}
-use Rattle.s38_rules.specs.Held.{found_in, is_named, object_in}
+use Rattle.s38_rules.specs.state.Held.{found_in, is_named, object_in}
 use Rattle.s38_objects.specs.declared.name_key.NameKey.{NameKey}
-use Rattle.s38_objects.specs.Lawful.{AreApart, IsLawful, number_of}
+use Rattle.s38_objects.specs.Lawful.{AreApart, IsObjectMap, number_of}
 use Rattle.s38_objects.specs.Indexed.{AreNumbered, IsIndexed, is_open}
 use Rattle.s38_objects.specs.NameOrder.{key, name_cmp}
 use Rattle.s38_objects.proofs.IndexLaws.{numbers_are_keys}
@@ -50,7 +50,7 @@ insert_first : (n : ℕ) (o : Object) (es : List (ℕ × Object)) → AllByRecur
 insert_first n o [] h = refl
 insert_first n o (e ∷ es) h = rw h.0 refl
 
--- what is behind an object in a list whose numbers rise
+-- what follows an object in a list whose numbers rise
 behind : (before : List Object) (o : Object) (after all : List Object) → IsStrictlyIncreasing (map number_of all) → (before ++ o ∷ []) ++ after ≡ all → IsStrictlySortedBy nat_cmp (number_of o ∷ map number_of after)
 behind before o after all rising e =
     let sorted : IsStrictlySortedBy nat_cmp (map number_of all) = sorted_from_strictly_increasing (map number_of all) rising in
@@ -96,7 +96,7 @@ apart_open next there (o ∷ os) placed h =
     late : o.context.0 < next → is_open next there o.context.0 ≡ true → is_some (object_in there o.context.0) ≡ true
     late low opened = let off : nat_le next o.context.0 ≡ false = grind (arith, nat_tests) in subst (λ (b : Bool). (b || is_some (object_in there o.context.0)) ≡ true) off opened
 
-pub indexed_whole : (next ceiling : ℕ) (m : BTreeMap ℕ Object) (names : BTreeMap NameKey ℕ) (all : List Object) → IsLawful (record { objects = all; next = next; ceiling = ceiling }) →
+pub indexed_whole : (next ceiling : ℕ) (m : BTreeMap ℕ Object) (names : BTreeMap NameKey ℕ) (all : List Object) → IsObjectMap (record { objects = all; next = next; ceiling = ceiling }) →
     All (λ x. x.context.0 < next) all → AreLast next m names [] all → IsIndexed m names next
 indexed_whole next ceiling m names all lawful placed h = record {
   ordered = h.ordered;

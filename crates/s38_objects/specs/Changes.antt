@@ -4,15 +4,15 @@ use Rattle.s38_base.specs.declared.id.Id.{Id}
 use Rattle.s38_base.specs.declared.id.ObjNum.{ObjNum}
 use Rattle.s38_rules.specs.declared.object.Object.{Object}
 use Rattle.s38_rules.specs.declared.object.Body.{Body}
-use Rattle.s38_rules.specs.Standing.{Standing, standing_of, with_standing}
+use Rattle.s38_rules.specs.state.Access.{Access, access_of, with_access}
 
 -- an object with another body
 abbrev pub with_body : (Body → Body) → Object → Object
 with_body f o = record o { body = f o.body }
 
--- an object that stands otherwise
-abbrev pub restood : (Standing → Standing) → Object → Object
-restood f o = with_standing (f (standing_of o)) o
+-- an object whose owner, rights or rows are others
+abbrev pub with_changed_standing : (Access → Access) → Object → Object
+with_changed_standing f o = with_access (f (access_of o)) o
 
 -- an object in another context and with another identification
 abbrev pub placed : ObjNum → Id → Object → Object

@@ -5,12 +5,12 @@ use Rattle.std.specs.Ordering.{nat_cmp}
 use Rattle.std.specs.BTreeMap.{BTreeMap, IsOrdered, get, values}
 use Rattle.s38_base.specs.declared.id.Id.{Id}
 use Rattle.s38_rules.specs.declared.object.Object.{Object}
-use Rattle.s38_rules.specs.Held.{found_in, object_in}
+use Rattle.s38_rules.specs.state.Held.{found_in, object_in}
 use Rattle.s38_objects.specs.declared.name_key.NameKey.{NameKey}
 use Rattle.s38_objects.specs.Lawful.{AreApart, number_of}
 use Rattle.s38_objects.specs.NameOrder.{key, name_cmp}
 
--- each object stands at its own number, which was given, as was that of the context that it says
+-- each object lies at its own number; that number was given, and so was that of the context that it says
 abbrev pub AreNumbered : ℕ → List (ℕ × Object) → Type 0
 AreNumbered next [] = Unit {0}
 AreNumbered next (e ∷ es) = (number_of e.1 ≡ e.0) × (e.0 < next) × (e.1.context.0 < next) × AreNumbered next es

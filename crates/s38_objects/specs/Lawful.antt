@@ -2,7 +2,7 @@
 use Rattle.std.specs.Prelude.{◌≡◌, ℕ, ◌<◌, ◌==◌, Bool, true, ◌||◌, All, List, [], ◌∷◌, map, None}
 use Rattle.std.specs.List.Sorted.{IsStrictlyIncreasing}
 use Rattle.s38_rules.specs.declared.object.Object.{Object}
-use Rattle.s38_rules.specs.Held.{Held, found_in, is_there}
+use Rattle.s38_rules.specs.state.Held.{Held, found_in, is_there}
 
 -- the number of an object
 abbrev pub number_of : Object → ℕ
@@ -15,7 +15,7 @@ AreApart contexts (o ∷ os) = (contexts o.context.0 ≡ true → found_in os o.
 
 -- what is true of every object map: the numbers rise and were given, and names are told apart in each context that is
 -- there
-pub record IsLawful (h : Held) : Type 0 where
+pub record IsObjectMap (h : Held) : Type 0 where
   pub rising : IsStrictlyIncreasing (map number_of h.objects)
   pub given : All (λ o. number_of o < h.next) h.objects
   pub apart : AreApart (is_there h) h.objects

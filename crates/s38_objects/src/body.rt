@@ -1,6 +1,6 @@
 ghost use Rattle.std.specs.Prelude.{◌≡◌};
-ghost use Rattle.s38_rules.specs.Held.{pages_of};
-ghost use Rattle.s38_rules.specs.Parts.{over_body, profile_part};
+ghost use Rattle.s38_rules.specs.state.Held.{pages_of};
+ghost use Rattle.s38_rules.specs.state.Parts.{over_body, profile_part};
 
 use s38_base::Special;
 use s38_rules::Body;

@@ -3,10 +3,10 @@
 ghost use Rattle.std.specs.Prelude.{◌≡◌, ◌+◌, ◌<◌, ◌^◌, ◌==◌, ℕ, [], None, OnErr, OnOk, if◌then◌else◌};
 ghost use Rattle.s38_profiles.specs.Rows.{row_at, row_key};
 ghost use Rattle.s38_profiles.specs.Users.{SetsUser, charge_in, user_at};
-ghost use Rattle.s38_rules.specs.Held.{charge_in as charges_in};
-ghost use Rattle.s38_rules.specs.Keeping.{AreKeptRows, AreUsers, paid};
-ghost use Rattle.s38_rules.specs.Kept.{kept_row, profile_by};
-ghost use Rattle.s38_rules.specs.PrivateRows.{AreRows, row_of};
+ghost use Rattle.s38_rules.specs.state.Held.{charge_in as charges_in};
+ghost use Rattle.s38_rules.specs.state.Keeping.{AreKeptRows, AreUsers, paid};
+ghost use Rattle.s38_rules.specs.state.Kept.{kept_row, profile_by};
+ghost use Rattle.s38_rules.specs.state.PrivateRows.{AreRows, row_of};
 
 use crate::body::pages;
 use crate::objects::Objects;

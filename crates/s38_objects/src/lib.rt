@@ -9,6 +9,7 @@ mod names;
 mod number;
 mod numbered;
 mod objects;
+mod parts;
 mod table;
 
 pub use body::pages;

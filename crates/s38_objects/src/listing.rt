@@ -1,8 +1,8 @@
-//! What stands in a context, in the order of its names.
+//! What a context holds, in the order of names.
 ghost use Rattle.std.specs.Prelude.{◌≡◌, ◌∷◌, [], IfOk, OnOk, filter};
 ghost use Rattle.std.specs.BTreeMap.{values};
-ghost use Rattle.s38_rules.specs.Contexts.{entered, listed};
-ghost use Rattle.s38_rules.specs.Held.{is_in_context};
+ghost use Rattle.s38_rules.specs.families.ContextLists.{listed, with_listed};
+ghost use Rattle.s38_rules.specs.state.Held.{is_in_context};
 
 use crate::number::Number;
 use s38_base::{NoMemory, ObjNum};
@@ -26,7 +26,7 @@ fn enter(
     object: &Object,
     context: ObjNum,
 ) -> Result<(), NoMemory>
-    ensures ok { OnOk result (names.new.entries ≡ entered names.old.entries (filter (is_in_context context.0) (object.now ∷ []))) }
+    ensures ok { OnOk result (names.new.entries ≡ with_listed names.old.entries (filter (is_in_context context.0) (object.now ∷ []))) }
 {
     if context.0 == 0 || object.context.0 != context.0 {
         return Ok(());
@@ -43,7 +43,7 @@ pub fn names(
     objects: &BTreeMap<Number, Object>,
     context: ObjNum,
 ) -> Result<BTreeMap<Listed, ObjNum>, NoMemory>
-    ensures { IfOk result (λ names. names.entries ≡ entered [] (filter (is_in_context context.0) (values objects.now))) }
+    ensures { IfOk result (λ names. names.entries ≡ with_listed [] (filter (is_in_context context.0) (values objects.now))) }
 {
     let mut names = BTreeMap::new(alloc);
     for object in objects.values() {

@@ -1,7 +1,7 @@
 ghost use Rattle.std.specs.Prelude.{◌≡◌, ℕ, None, Some, OnOk, OnErr, if◌then◌else◌};
 ghost use Rattle.std.specs.BTreeMap.{IsUnchanged, get};
 ghost use Rattle.s38_base.specs.declared.id.Id.{Id};
-ghost use Rattle.s38_rules.specs.Held.{is_named};
+ghost use Rattle.s38_rules.specs.state.Held.{is_named};
 ghost use Rattle.s38_objects.specs.NameOrder.{is_found_by, key, name_cmp};
 
 use crate::name_key::{NameKey, key};

@@ -5,7 +5,7 @@ ghost use Rattle.std.specs.Cmp.{nat_cmp_total, nat_eq_equiv, partial_equiv_from_
 use std::cmp::Ordering;
 use std::marker::Model;
 
-/// How a number stands to one that it is not above: whether they are equal decides.
+/// How a number compares with one that it is not above: less, or equal.
 static NOT_ABOVE: [Ordering; 2] = [Ordering::Less, Ordering::Equal];
 
 /// The number of an object, by which it is found. Contracts see a number; it is ordered as a `u64` is, by comparisons

@@ -2,11 +2,11 @@ ghost use Rattle.std.specs.Prelude.{◌≡◌, ◌≢◌, ◌==◌, ◌&&◌, �
 ghost use Rattle.std.specs.Option.{option_map};
 ghost use Rattle.std.specs.Ordering.{nat_cmp};
 ghost use Rattle.std.specs.BTreeMap.{IsOrdered, get, insert_entry};
-ghost use Rattle.s38_rules.specs.Headers.{row_in};
-ghost use Rattle.s38_rules.specs.Held.{kept_on_disk};
-ghost use Rattle.s38_rules.specs.Parts.{over_object, profile_part};
-ghost use Rattle.s38_rules.specs.Standing.{granted, open_to_all, owned_by};
-ghost use Rattle.s38_objects.specs.Changes.{changed_at, placed, restood};
+ghost use Rattle.s38_rules.specs.state.Headers.{rights_in_row};
+ghost use Rattle.s38_rules.specs.state.Held.{kept_on_disk};
+ghost use Rattle.s38_rules.specs.state.Parts.{over_object, profile_part};
+ghost use Rattle.s38_rules.specs.state.Access.{granted, open_to_all, owned_by};
+ghost use Rattle.s38_objects.specs.Changes.{changed_at, placed, with_changed_standing};
 
 use crate::body;
 use crate::number::Number;
@@ -50,7 +50,7 @@ pub fn place(objects: &mut BTreeMap<Number, Object>, number: u64, context: ObjNu
 
 /// Another owner of the object of a number.
 pub fn set_owner(objects: &mut BTreeMap<Number, Object>, number: u64, user: UserNum)
-    ensures { objects.new.entries ≡ changed_at objects.old.entries number (restood (owned_by user)) }
+    ensures { objects.new.entries ≡ changed_at objects.old.entries number (with_changed_standing (owned_by user)) }
 {
     if let Some(object) = objects.get_mut(&Number { number }) {
         object.owner = user;
@@ -59,7 +59,7 @@ pub fn set_owner(objects: &mut BTreeMap<Number, Object>, number: u64, user: User
 
 /// Other rights of everybody on the object of a number.
 pub fn set_public(objects: &mut BTreeMap<Number, Object>, number: u64, rights: Rights)
-    ensures { objects.new.entries ≡ changed_at objects.old.entries number (restood (open_to_all rights)) }
+    ensures { objects.new.entries ≡ changed_at objects.old.entries number (with_changed_standing (open_to_all rights)) }
 {
     if let Some(object) = objects.get_mut(&Number { number }) {
         object.public = rights;
@@ -96,10 +96,10 @@ pub fn set_row(
     user: UserNum,
     rights: Rights,
 ) -> Result<(), NoMemory>
-    ensures ok { OnOk result (objects.new.entries ≡ changed_at objects.old.entries number (restood (granted user rights))) }
-    ensures rows { OnOk result ((u : ℕ) → row_in (option_map (restood (granted user rights)) (get nat_cmp objects.old number)) u
-        ≡ (if is_some (get nat_cmp objects.old number) && (user.0 == u) then rights.0 else row_in (get nat_cmp objects.old number) u)) }
-    ensures added { OnErr result ((row_in (get nat_cmp objects.old number) user.0 ≡ 0) × (rights.0 ≢ 0)) }
+    ensures ok { OnOk result (objects.new.entries ≡ changed_at objects.old.entries number (with_changed_standing (granted user rights))) }
+    ensures rows { OnOk result ((u : ℕ) → rights_in_row (option_map (with_changed_standing (granted user rights)) (get nat_cmp objects.old number)) u
+        ≡ (if is_some (get nat_cmp objects.old number) && (user.0 == u) then rights.0 else rights_in_row (get nat_cmp objects.old number) u)) }
+    ensures added { OnErr result ((rights_in_row (get nat_cmp objects.old number) user.0 ≡ 0) × (rights.0 ≢ 0)) }
     ensures err { OnErr result (objects.new.entries ≡ objects.old.entries) }
 {
     match objects.get_mut(&Number { number }) {

@@ -1,38 +1,29 @@
 ghost use Rattle.std.specs.Prelude.{◌≡◌, ◌≢◌, [], ◌≤◌, ◌<◌, ◌^◌, ◌==◌, ◌&&◌, ◌↔◌, All, ℕ, length, None, IfOk, IfErr, IsTrue, OnOk, OnErr, false, true, if◌then◌else◌};
 ghost use Rattle.std.specs.Borrow.{sem};
 ghost use Rattle.std.specs.Option.{option_copied, option_copied_mut};
-ghost use Rattle.s38_memory.specs.contracts.tagged.Tagged.{the_row as tagged_row};
-ghost use Rattle.s38_indexes.specs.contracts.index.Index.{the_row as index_row};
-ghost use Rattle.s38_queues.specs.contracts.queue.Queue.{the_row as queue_row};
-ghost use Rattle.s38_journals.specs.contracts.journal.Journal.{the_row as journal_row};
-ghost use Rattle.s38_rules.specs.contracts.cursor.Cursor.{the_row as cursor_row};
-ghost use Rattle.s38_rules.specs.contracts.data_body.DataBody.{the_row as data_row};
-ghost use Rattle.s38_rules.specs.Contexts.{entered, is_name_beside};
-ghost use Rattle.s38_rules.specs.Creation.{is_taken_beside};
-ghost use Rattle.s38_rules.specs.Headers.{row_in};
-ghost use Rattle.s38_rules.specs.Held.{change, contents, context_in, ensured, found, is_there, moved, nothing, number_found, object, renamed, with_added, without};
-ghost use Rattle.s38_rules.specs.Parts.{block_part, cursor_part, data_part, index_part, journal_part, part_at, port_part, queue_part, set_profile, space_part};
-ghost use Rattle.s38_rules.specs.Standing.{granted, open_to_all, owned_by, restand};
+ghost use Rattle.s38_rules.specs.families.Contexts.{is_name_beside};
+ghost use Rattle.s38_rules.specs.families.ContextLists.{with_listed};
+ghost use Rattle.s38_rules.specs.families.Creation.{is_taken_beside};
+ghost use Rattle.s38_rules.specs.state.Headers.{rights_in_row};
+ghost use Rattle.s38_rules.specs.state.Held.{change, contents, context_in, ensured, found, is_there, moved, nothing, number_found, object, renamed, with_added, without};
+ghost use Rattle.s38_rules.specs.state.Parts.{part_at};
+ghost use Rattle.s38_rules.specs.state.PartsAt.{set_profile};
+ghost use Rattle.s38_rules.specs.state.Access.{granted, on_access, open_to_all, owned_by};
 ghost use Rattle.s38_objects.specs.Changes.{placed};
-ghost use Rattle.s38_objects.specs.Lawful.{IsLawful, is_place, is_place_of};
+ghost use Rattle.s38_objects.specs.Lawful.{IsObjectMap, is_place, is_place_of};
 ghost use Rattle.s38_objects.specs.Lending.{LendsHeld};
 
 use crate::name_key::{NameKey, key};
 use crate::number::Number;
 use crate::{listing, names, numbered};
 use s38_base::{Id, NoMemory, ObjNum, Rights, Special, UserNum};
-use s38_indexes::Index;
-use s38_journals::Journal;
-use s38_memory::Tagged;
-use s38_queues::Queue;
-use s38_rules::{Block, BodyPart, Cursor, DataBody, Listed, Object, Port};
+use s38_rules::{BodyPart, Listed, Object};
 use std::alloc::{AllocFailed, Global};
 use std::collections::BTreeMap;
 use std::collections::btree_map::Values;
 use std::marker::Model;
 
-/// The object map. Contracts see it as the objects in rising order of number, the next number and the
-/// ceiling.
+/// The object map. Contracts see it as the objects in rising order of number, the next number and the ceiling.
 #[derive(Drop)]
 pub struct Objects {
     alloc: Global,
@@ -44,7 +35,7 @@ pub struct Objects {
 
 impl Model for Objects {
     ghost use Rattle.std.specs.BTreeMap.{values};
-    ghost use Rattle.s38_rules.specs.Held.{Held};
+    ghost use Rattle.s38_rules.specs.state.Held.{Held};
     ghost use Rattle.s38_objects.specs.Indexed.{IsIndexed};
 
     ghost Value = { Held };
@@ -76,7 +67,7 @@ impl Objects {
         next: u64,
         ceiling: u64,
     ) -> Result<Objects, NoMemory>
-        requires lawful { IsLawful (record { objects = objects.items; next = next; ceiling = ceiling }) }
+        requires lawful { IsObjectMap (record { objects = objects.items; next = next; ceiling = ceiling }) }
         requires placed { All (λ o. o.context.0 < next) objects.items }
         ensures { IfOk result (λ map. map ≡ record { objects = objects.items; next = next; ceiling = ceiling }) }
     {
@@ -101,7 +92,7 @@ impl Objects {
     /// How many objects there are.
     pub fn len(&self) -> usize
         ensures len { result ≡ length self.now.objects }
-        ensures lawful { IsLawful self.now }
+        ensures lawful { IsObjectMap self.now }
     {
         self.by_number.len()
     }
@@ -116,7 +107,7 @@ impl Objects {
     /// The objects, in rising order of number.
     pub fn all(&self) -> Values<'_, Number, Object>
         ensures all { result ≡ self.now.objects }
-        ensures lawful { IsLawful self.now }
+        ensures lawful { IsObjectMap self.now }
     {
         self.by_number.values()
     }
@@ -152,8 +143,7 @@ impl Objects {
         }
     }
 
-    /// The number of the object of an identification in a context, in logarithmic time. In a context that is gone
-    /// nothing is found.
+    /// The number of the object of an identification in a context, in logarithmic time; none in a context that is gone.
     pub fn find(&self, context: ObjNum, id: &Id) -> Option<ObjNum>
         ensures { result ≡ number_found self.now context.0 id.now }
     {
@@ -173,14 +163,13 @@ impl Objects {
         }
     }
 
-    /// The objects in a context under their identifications, in the order of kind, subtype and name; none in a context
-    /// that is gone. `NoMemory` where memory was refused.
+    /// The objects in a context by kind, subtype and name; none where it is gone. `NoMemory` where memory is refused.
     pub fn names(
         &self,
         alloc: Global,
         context: ObjNum,
     ) -> Result<BTreeMap<Listed, ObjNum>, NoMemory>
-        ensures { IfOk result (λ names. names.entries ≡ entered [] (contents self.now context.0)) }
+        ensures { IfOk result (λ names. names.entries ≡ with_listed [] (contents self.now context.0)) }
     {
         if !self.is_there(context) {
             return Ok(BTreeMap::new(alloc));
@@ -188,9 +177,8 @@ impl Objects {
         listing::names(alloc, &self.by_number, context)
     }
 
-    /// Adds an object behind the others. Its number was never given, its context is there, or itself, or none, and no
-    /// object in its context has its identification. Where memory was refused the object comes back and nothing
-    /// changed.
+    /// Adds an object after the others. Its number was never given, its context is there, or itself, or none, and no
+    /// object in its context has its identification. Where memory is refused it comes back and nothing changes.
     pub fn add(&mut self, object: Object) -> Result<ObjNum, AllocFailed<Object>>
         requires unused { self.old.next ≤ object.number.0 }
         requires small { object.number.0 < 2 ^ 63 }
@@ -216,8 +204,7 @@ impl Objects {
         Ok(number)
     }
 
-    /// Takes the object of a number out, in logarithmic time and without memory. Its number is never given
-    /// again. What says it as its context is in no context from then on.
+    /// Takes the object of a number out, without memory. What it was the context of is in no context from then on.
     pub fn remove(&mut self, number: ObjNum) -> Option<Object>
         ensures object { result ≡ object self.old number.0 }
         ensures rest { self.new ≡ without self.old number.0 }
@@ -231,75 +218,8 @@ impl Objects {
         }
     }
 
-    /// What the object of a number holds; None exactly where there is no such object or it is of another kind.
-    fn part<P: BodyPart>(&self, number: ObjNum) -> Option<&P>
-        ensures { option_copied result ≡ part_at P.part self.now number.0 }
-    {
-        match self.get(number) {
-            Some(object) => P::of(&object.body),
-            None => None,
-        }
-    }
-
-    /// The queue of a number, in logarithmic time.
-    pub fn queue(&self, number: ObjNum) -> Option<&Queue>
-        ensures { option_copied result ≡ part_at queue_part self.now number.0 }
-    {
-        self.part::<Queue>(number)
-    }
-
-    /// The space of a number, in logarithmic time.
-    pub fn space(&self, number: ObjNum) -> Option<&Tagged>
-        ensures { option_copied result ≡ part_at space_part self.now number.0 }
-    {
-        self.part::<Tagged>(number)
-    }
-
-    /// The index of a number, in logarithmic time.
-    pub fn index(&self, number: ObjNum) -> Option<&Index>
-        ensures { option_copied result ≡ part_at index_part self.now number.0 }
-    {
-        self.part::<Index>(number)
-    }
-
-    /// The data space of a number, in logarithmic time.
-    pub fn data_space(&self, number: ObjNum) -> Option<&DataBody>
-        ensures { option_copied result ≡ part_at data_part self.now number.0 }
-    {
-        self.part::<DataBody>(number)
-    }
-
-    /// The cursor of a number, in logarithmic time.
-    pub fn cursor(&self, number: ObjNum) -> Option<&Cursor>
-        ensures { option_copied result ≡ part_at cursor_part self.now number.0 }
-    {
-        self.part::<Cursor>(number)
-    }
-
-    /// The journal port of a number, in logarithmic time.
-    pub fn port(&self, number: ObjNum) -> Option<&Port>
-        ensures { option_copied result ≡ part_at port_part self.now number.0 }
-    {
-        self.part::<Port>(number)
-    }
-
-    /// The journal space of a number, in logarithmic time.
-    pub fn journal(&self, number: ObjNum) -> Option<&Journal>
-        ensures { option_copied result ≡ part_at journal_part self.now number.0 }
-    {
-        self.part::<Journal>(number)
-    }
-
-    /// The commit block of a number, in logarithmic time.
-    pub fn block(&self, number: ObjNum) -> Option<&Block>
-        ensures { option_copied result ≡ part_at block_part self.now number.0 }
-    {
-        self.part::<Block>(number)
-    }
-
-    /// What the object of a number holds, to be written. A further kind is a `BodyPart` and calls like `queue` and
-    /// `queue_mut`.
-    fn part_mut<P: BodyPart>(&mut self, number: ObjNum) -> Option<&mut P>
+    /// What the object of a number holds, to be written. A further kind is a `BodyPart`, with calls in parts.rt.
+    pub(crate) fn part_mut<P: BodyPart>(&mut self, number: ObjNum) -> Option<&mut P>
         ensures* writes_back { sem 𝓛 (LendsHeld P.row P.part self.entry number.0 result) }
         ensures value { option_copied_mut result ≡ part_at P.part self.old number.0 }
     {
@@ -309,62 +229,7 @@ impl Objects {
         }
     }
 
-    /// The queue of a number, to be written, in logarithmic time; None exactly where there is no such object or
-    /// it is no queue.
-    pub fn queue_mut(&mut self, number: ObjNum) -> Option<&mut Queue>
-        ensures* writes_back { sem 𝓛 (LendsHeld queue_row queue_part self.entry number.0 result) }
-        ensures value { option_copied_mut result ≡ part_at queue_part self.old number.0 }
-    {
-        self.part_mut::<Queue>(number)
-    }
-
-    /// The space of a number, to be written, in logarithmic time; None exactly where there is no such object or
-    /// it is no space.
-    pub fn space_mut(&mut self, number: ObjNum) -> Option<&mut Tagged>
-        ensures* writes_back { sem 𝓛 (LendsHeld tagged_row space_part self.entry number.0 result) }
-        ensures value { option_copied_mut result ≡ part_at space_part self.old number.0 }
-    {
-        self.part_mut::<Tagged>(number)
-    }
-
-    /// The index of a number, to be written, in logarithmic time; None exactly where there is no such object or
-    /// it is no index.
-    pub fn index_mut(&mut self, number: ObjNum) -> Option<&mut Index>
-        ensures* writes_back { sem 𝓛 (LendsHeld index_row index_part self.entry number.0 result) }
-        ensures value { option_copied_mut result ≡ part_at index_part self.old number.0 }
-    {
-        self.part_mut::<Index>(number)
-    }
-
-    /// The data space of a number, to be written, in logarithmic time; None exactly where there is no such object or
-    /// it is no data space.
-    pub fn data_space_mut(&mut self, number: ObjNum) -> Option<&mut DataBody>
-        ensures* writes_back { sem 𝓛 (LendsHeld data_row data_part self.entry number.0 result) }
-        ensures value { option_copied_mut result ≡ part_at data_part self.old number.0 }
-    {
-        self.part_mut::<DataBody>(number)
-    }
-
-    /// The cursor of a number, to be written, in logarithmic time; None exactly where there is no such object or
-    /// it is no cursor.
-    pub fn cursor_mut(&mut self, number: ObjNum) -> Option<&mut Cursor>
-        ensures* writes_back { sem 𝓛 (LendsHeld cursor_row cursor_part self.entry number.0 result) }
-        ensures value { option_copied_mut result ≡ part_at cursor_part self.old number.0 }
-    {
-        self.part_mut::<Cursor>(number)
-    }
-
-    /// The journal space of a number, to be written, in logarithmic time; None exactly where there is no such object or
-    /// it is no journal space.
-    pub fn journal_mut(&mut self, number: ObjNum) -> Option<&mut Journal>
-        ensures* writes_back { sem 𝓛 (LendsHeld journal_row journal_part self.entry number.0 result) }
-        ensures value { option_copied_mut result ≡ part_at journal_part self.old number.0 }
-    {
-        self.part_mut::<Journal>(number)
-    }
-
-    /// The object of a number is in this context from now on, or in none, and has this identification. `NoMemory` where
-    /// memory was refused, and nothing changed.
+    /// The object of a number is in this context from now on, or in none, and has this identification.
     fn place(&mut self, number: ObjNum, context: ObjNum, id: &Id) -> Result<(), NoMemory>
         requires given { context.0 < self.old.next }
         requires unnamed { is_taken_beside self.old number.0 context.0 id.now ≡ false }
@@ -382,8 +247,7 @@ impl Objects {
         Ok(())
     }
 
-    /// The object of a number has another identification from now on, that no other object in its context has.
-    /// `NoMemory` where memory was refused, and nothing changed.
+    /// The object of a number has another identification from now on. After `NoMemory` nothing changed.
     pub fn rename(&mut self, number: ObjNum, id: Id) -> Result<(), NoMemory>
         requires { is_taken_beside self.old number.0 (context_in (object self.old number.0)).0 id ≡ false }
         ensures ok { OnOk result (self.new ≡ renamed self.old number.0 id) }
@@ -418,10 +282,10 @@ impl Objects {
     /// Sets the rights of a user by a private row on the object of a number; a row without a right is taken out. Memory
     /// can be refused only where a row is added, and nothing changed then.
     pub fn set_row(&mut self, number: ObjNum, user: UserNum, rights: Rights) -> Result<(), NoMemory>
-        ensures ok { OnOk result (self.new ≡ restand self.old number.0 (granted user rights)) }
-        ensures others { OnOk result ((n u : ℕ) → row_in (object self.new n) u
-            ≡ (if is_there self.old number.0 && ((number.0 == n) && (user.0 == u)) then rights.0 else row_in (object self.old n) u)) }
-        ensures added { OnErr result ((row_in (object self.old number.0) user.0 ≡ 0) × (rights.0 ≢ 0)) }
+        ensures ok { OnOk result (self.new ≡ on_access self.old number.0 (granted user rights)) }
+        ensures others { OnOk result ((n u : ℕ) → rights_in_row (object self.new n) u
+            ≡ (if is_there self.old number.0 && ((number.0 == n) && (user.0 == u)) then rights.0 else rights_in_row (object self.old n) u)) }
+        ensures added { OnErr result ((rights_in_row (object self.old number.0) user.0 ≡ 0) × (rights.0 ≢ 0)) }
         ensures err { OnErr result (self.new ≡ self.old) }
     {
         numbered::set_row(&mut self.by_number, number.0, user, rights)
@@ -429,14 +293,14 @@ impl Objects {
 
     /// The object of a number belongs to a user from now on.
     pub fn set_owner(&mut self, number: ObjNum, user: UserNum)
-        ensures { self.new ≡ restand self.old number.0 (owned_by user) }
+        ensures { self.new ≡ on_access self.old number.0 (owned_by user) }
     {
         numbered::set_owner(&mut self.by_number, number.0, user);
     }
 
     /// Everybody has these rights on the object of a number from now on.
     pub fn set_public(&mut self, number: ObjNum, rights: Rights)
-        ensures { self.new ≡ restand self.old number.0 (open_to_all rights) }
+        ensures { self.new ≡ on_access self.old number.0 (open_to_all rights) }
     {
         numbered::set_public(&mut self.by_number, number.0, rights);
     }
@@ -448,8 +312,7 @@ impl Objects {
         numbered::ensure(&mut self.by_number, number.0);
     }
 
-    /// The user of a number has these special authorities and this limit from now on. Nothing changes where there is
-    /// no such object or it is no user.
+    /// The user of a number has these special authorities and this limit from now on; nothing changes where it is none.
     pub fn set_profile(&mut self, number: ObjNum, special: Special, limit: u32)
         ensures { self.new ≡ set_profile self.old number.0 special limit }
     {

@@ -1,7 +1,7 @@
 //! What the objects are to crates that know no object map: headers by number, and numbers by name.
 ghost use Rattle.std.specs.Prelude.{◌≡◌};
-ghost use Rattle.s38_rules.specs.Headers.{adopts, header_of, limit_of, propagates, special_of};
-ghost use Rattle.s38_rules.specs.Held.{kind_of};
+ghost use Rattle.s38_rules.specs.state.Headers.{adopts, header_of, limit_of, propagates, special_of};
+ghost use Rattle.s38_rules.specs.state.Held.{kind_of};
 
 use crate::objects::Objects;
 use s38_base::{Id, Kind, ObjNum, Special};

@@ -9,12 +9,13 @@ use Rattle.std.proofs.lemmas.List.FromFn.{length-map-range_with_len}
 use Rattle.std.proofs.lemmas.Option.{get_or_from_slice_get, slice_get-get_or, slice_get_within}
 use Rattle.std.proofs.Math.Seq.{get_or-append_seam, take-append_seam}
 use Rattle.s38_base.specs.Exceptions as exceptions
-use Rattle.s38_base.specs.Scalar.{digit_at, bits_of, fits, image_of, is_bounded, packed_byte, zoned_byte}
+use Rattle.s38_base.specs.Scalar.{bits_of, digit_at, fits, packed_byte, scalar_image, zoned_byte}
+use Rattle.s38_base.specs.Attributes.{is_bounded}
 use Rattle.s38_base.specs.declared.attr.Attr.{Attr}
 use Rattle.s38_base.specs.declared.attr.Attr.TheVariants.{Packed, Zoned, Binary, Chars, Pointer}
 use Rattle.s38_words.specs.DeclarationLine.{declaration_of, initial_of}
 use Rattle.s38_words.specs.Literal.{text_of}
-use Rattle.s38_words.specs.Number.{number_of}
+use Rattle.s38_words.specs.Number.{number_spelled}
 use Rattle.s38_code.specs.declared.program.CreateFault.{CreateFault}
 use Rattle.s38_code.specs.declared.program.Form.{Form}
 use Rattle.s38_code.specs.declared.program.Form.TheVariants.{Local, Parm, Based, Handler}
@@ -23,28 +24,28 @@ use Rattle.s38_words.specs.declared.declarations.DeclarationLine.{DeclarationLin
 use Rattle.s38_words.specs.declared.declarations.Declares.{Declares}
 use Rattle.s38_words.specs.declared.declarations.Declares.TheVariants.{Variable, Parameter, BasedItem, Description}
 use Rattle.s38_words.specs.declared.numbers.Numeral.{Numeral}
-use Rattle.s38_odt.specs.First.{blank_of, either_held, filled, first_of, is_exact, number_held, text_held, units_held, units_in}
+use Rattle.s38_odt.specs.First.{blank_filled, blank_of, either_held, initial_bytes, is_exact, number_held, text_held, units_held, units_in}
 use Rattle.s38_odt.specs.Formed.{AreFormed, IsForm, first_length}
 use Rattle.s38_odt.specs.Labels.{instruction_count, label_in}
-use Rattle.s38_odt.specs.Table.{and_then, base_at, base_in, based_form, checked_form, form_of, handler_form, is_base_row, is_bounded_line, more_rows, new_row, parameter_count, parameter_form, place_in, refused, row_of, row_from, rows_from, variable_form}
+use Rattle.s38_odt.specs.Table.{and_then, base_at, base_in, based_form, checked_form, form_of, handler_form, is_base_row, is_bounded_line, more_rows, new_row, parameter_count, parameter_form, place_in, row_from, row_made, row_refused, rows_from, variable_form}
 use Rattle.s38_odt.proofs.LabelLemmas.{label_in-bound}
 use Rattle.s38_odt.proofs.Parts.{and_then-some, if-ok, if-some, unless-ok}
 
 -- ---- first bytes
 
 units_held-length : (attr : Attr) (z : ℤ) (first : List ℕ) → units_held attr z ≡ Some first → length first ≡ first_length attr
-unfolding fits image_of
+unfolding fits scalar_image
 units_held-length (Packed digits fraction) z first h =
-    let made = (if-some (fits (Packed digits fraction) z) (Some (image_of (Packed digits fraction) z)) first h).1 in
-    let same : image_of (Packed digits fraction) z ≡ first = cc in
+    let made = (if-some (fits (Packed digits fraction) z) (Some (scalar_image (Packed digits fraction) z)) first h).1 in
+    let same : scalar_image (Packed digits fraction) z ≡ first = cc in
     ap length (sym same) ∙ length-map-range_with_len (packed_byte (digits / 2) z) 0 (digits / 2 + 1)
 units_held-length (Zoned digits fraction) z first h =
-    let made = (if-some (fits (Zoned digits fraction) z) (Some (image_of (Zoned digits fraction) z)) first h).1 in
-    let same : image_of (Zoned digits fraction) z ≡ first = cc in
+    let made = (if-some (fits (Zoned digits fraction) z) (Some (scalar_image (Zoned digits fraction) z)) first h).1 in
+    let same : scalar_image (Zoned digits fraction) z ≡ first = cc in
     ap length (sym same) ∙ length-map-range_with_len (zoned_byte digits z) 0 digits
 units_held-length (Binary size) z first h =
-    let made = (if-some (fits (Binary size) z) (Some (image_of (Binary size) z)) first h).1 in
-    let same : image_of (Binary size) z ≡ first = cc in
+    let made = (if-some (fits (Binary size) z) (Some (scalar_image (Binary size) z)) first h).1 in
+    let same : scalar_image (Binary size) z ≡ first = cc in
     ap length (sym same) ∙ length-map-range_with_len (λ k. digit_at 256 (bits_of size z) (size - 1 - k)) 0 size
 units_held-length (Chars len) z first h = absurd (let e : None ≡ Some first = h in cc)
 units_held-length Pointer z first h = absurd (let e : None ≡ Some first = h in cc)
@@ -54,7 +55,7 @@ unfolding number_held
 number_held-length attr n first h =
     units_held-length attr (units_in attr n) first (if-some (is_exact attr n) (units_held attr (units_in attr n)) first h).1
 
-filled-length : (len : ℕ) (bytes : List ℕ) → length bytes ≤ len → length (filled len bytes) ≡ len
+filled-length : (len : ℕ) (bytes : List ℕ) → length bytes ≤ len → length (blank_filled len bytes) ≡ len
 filled-length len bytes h =
     let tail : List ℕ = replicate (len - length bytes) 64 in
     let pad : length tail ≡ len - length bytes = length-replicate {A = ℕ} (len - length bytes) 64 in
@@ -65,11 +66,11 @@ text_held-length (Packed digits fraction) bytes first h = absurd (let e : None �
 text_held-length (Zoned digits fraction) bytes first h = absurd (let e : None ≡ Some first = h in cc)
 text_held-length (Binary size) bytes first h = absurd (let e : None ≡ Some first = h in cc)
 text_held-length (Chars len) bytes first h =
-    let made = if-some (leb (length bytes) len) (Some (filled len bytes)) first h in
+    let made = if-some (leb (length bytes) len) (Some (blank_filled len bytes)) first h in
     let test : leb (length bytes) len ≡ true = made.0 in
     let few : length bytes ≤ len = grind (arith, nat_tests) in
     let taken = made.1 in
-    let same : filled len bytes ≡ first = cc in
+    let same : blank_filled len bytes ≡ first = cc in
     ap length (sym same) ∙ filled-length len bytes few
 text_held-length Pointer bytes first h = absurd (let e : None ≡ Some first = h in cc)
 
@@ -84,9 +85,9 @@ either_held-length : (attr : Attr) (n : Option Numeral) (text : Option (List ℕ
 either_held-length attr (Some n) text first h = number_held-length attr n first h
 either_held-length attr None text first h = let held = and_then-some (text_held attr) text first h in text_held-length attr held.0 first held.2
 
-first_of-length : (attr : Attr) (literal : Option (List ℕ)) (first : List ℕ) → first_of attr literal ≡ Some first → length first ≡ first_length attr
+first_of-length : (attr : Attr) (literal : Option (List ℕ)) (first : List ℕ) → initial_bytes attr literal ≡ Some first → length first ≡ first_length attr
 first_of-length attr None first h = blank_of-length attr first h
-first_of-length attr (Some literal) first h = either_held-length attr (number_of literal) (text_of literal) first h
+first_of-length attr (Some literal) first h = either_held-length attr (number_spelled literal) (text_of literal) first h
 
 -- ---- forms
 
@@ -138,7 +139,7 @@ form_of-formed : (code : List (List ℕ)) (rows : List Row) (literal : Option (L
     is_bounded_line declares ≡ true → form_of code rows literal declares ≡ Ok form → IsForm (instruction_count code) rows form
 unfolding form_of
 form_of-formed code rows literal (Variable attr) form bounded h =
-    variable_form-formed (instruction_count code) rows attr (first_of attr literal) form bounded (λ first e. first_of-length attr literal first e) h
+    variable_form-formed (instruction_count code) rows attr (initial_bytes attr literal) form bounded (λ first e. first_of-length attr literal first e) h
 form_of-formed code rows literal (Parameter k attr) form bounded h =
     let few : k ≤ 16 = grind (arith, nat_tests) in
     let attr_bounded : is_bounded attr ≡ true = grind arith in
@@ -170,8 +171,8 @@ row_from-formed code rows literal (Some line) row h =
     (λ form e. let checked = if-ok (is_bounded_line line.declares) (form_of code rows literal line.declares) exceptions.declaration_invalid form e in
     form_of-formed code rows literal line.declares form checked.0 checked.1) h
 
-row_of-formed : (code : List (List ℕ)) (rows : List Row) (line : List ℕ) (row : Row) → row_of code rows line ≡ Ok row → IsForm (instruction_count code) rows row.form
-unfolding row_of
+row_of-formed : (code : List (List ℕ)) (rows : List Row) (line : List ℕ) (row : Row) → row_made code rows line ≡ Ok row → IsForm (instruction_count code) rows row.form
+unfolding row_made
 row_of-formed code rows line row h = row_from-formed code rows (initial_of line) (declaration_of line) row h
 
 AreFormed-none : (count : ℕ) → AreFormed count []
@@ -199,7 +200,7 @@ AreFormed-push count rows row formed one = record {
 
 more_rows-ok : (rows : List Row) (made : Result Row ℕ) (next : List Row → Result (List Row) CreateFault) (out : List Row) →
     and_then (more_rows rows made) next ≡ Ok out → (row : Row) × (made ≡ Ok row) × (next (rows ++ row ∷ []) ≡ Ok out)
-more_rows-ok rows (Err cause) next out h = absurd (let e : Err (refused rows cause) ≡ Ok out = h in cc)
+more_rows-ok rows (Err cause) next out h = absurd (let e : Err (row_refused rows cause) ≡ Ok out = h in cc)
 more_rows-ok rows (Ok row) next out h = (row, refl, h)
 
 -- the rows of all lines are formed, and each line makes one
@@ -211,7 +212,7 @@ rows_from-formed code rows [] out formed h =
     let P : List Row → Type 0 = λ xs. AreFormed (instruction_count code) xs in
     (subst P same formed, omega (arith, ap length same))
 rows_from-formed code rows (line ∷ lines) out formed h =
-    let step = more_rows-ok rows (row_of code rows line) (λ more. rows_from code more lines) out h in
+    let step = more_rows-ok rows (row_made code rows line) (λ more. rows_from code more lines) out h in
     let pushed = AreFormed-push (instruction_count code) rows step.0 formed (row_of-formed code rows line step.0 step.1) in
     let rest = rows_from-formed code (rows ++ step.0 ∷ []) lines out pushed step.2 in
     (rest.0, omega (arith, rest.1, length-append rows (step.0 ∷ [])))

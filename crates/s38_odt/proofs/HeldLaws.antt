@@ -1,7 +1,8 @@
 -- A number that is too large is not held.
 use Rattle.std.proofs.Common.{◌≡◌, ℕ, ℤ, zero, suc, ◌-◌, ◌^◌, ◌<◌, ◌&&◌, Bool, true, false, cond, List, Option, Some, None, min, refl, ap, arith}
 use Rattle.std.specs.Prelude.{unsigned_abs}
-use Rattle.s38_base.specs.Scalar.{fits, fits_size, image_of, is_numeric, with_minus}
+use Rattle.s38_base.specs.Scalar.{fits, fits_size, scalar_image, with_minus}
+use Rattle.s38_base.specs.Attributes.{is_numeric}
 use Rattle.s38_base.specs.declared.attr.Attr.{Attr}
 use Rattle.s38_words.specs.declared.numbers.Numeral.{Numeral}
 use Rattle.s38_odt.specs.First.{is_exact, is_negative, magnitude_in, number_held, units_held, units_in}
@@ -14,8 +15,8 @@ unsigned_abs-with_minus true (suc n) = refl
 
 units_held-large : (attr : Attr) (z : ℤ) → 2 ^ 127 - 1 < unsigned_abs z → units_held attr z ≡ None
 units_held-large attr z large =
-    let by_test : (b : Bool) → fits attr z ≡ b → cond b (Some (image_of attr z)) None ≡ None =
-    λ b. elim b as (λ b. fits attr z ≡ b → cond b (Some (image_of attr z)) None ≡ None) [
+    let by_test : (b : Bool) → fits attr z ≡ b → cond b (Some (scalar_image attr z)) None ≡ None =
+    λ b. elim b as (λ b. fits attr z ≡ b → cond b (Some (scalar_image attr z)) None ≡ None) [
       | true ↦ λ e. let small : unsigned_abs z < 2 ^ 127 = fits-small attr z e in absurd (omega arith)
       | false ↦ λ e. refl
     ] in
@@ -34,7 +35,7 @@ number_held-large attr n m is large =
 
 units_held-other : (attr : Attr) (z : ℤ) → is_numeric attr ≡ false → units_held attr z ≡ None
 unfolding fits
-units_held-other attr z h = ap (λ b. cond (b && fits_size attr z) (Some (image_of attr z)) None) h
+units_held-other attr z h = ap (λ b. cond (b && fits_size attr z) (Some (scalar_image attr z)) None) h
 
 pub number_held-other : (attr : Attr) (n : Numeral) → is_numeric attr ≡ false → number_held attr n ≡ None
 unfolding number_held

@@ -6,9 +6,9 @@ use Rattle.std.specs.Str.{bytes_eq}
 use Rattle.std.specs.Cmp.Lexicographic.{slice_cmp}
 use Rattle.std.specs.BTreeMap.{BTreeMap, get, Updates}
 use Rattle.std.proofs.lemmas.Map.Text.{is_eq-slice_cmp}
-use Rattle.s38_odt.specs.Labels.{entered, EntersNew}
+use Rattle.s38_odt.specs.Labels.{EntersNew, with_label}
 
-entered-new : (o : Option ℕ) (b : Bool) (n : ℕ) → (b ≡ true → o ≡ None) → cond b (Some n) o ≡ entered o b n
+entered-new : (o : Option ℕ) (b : Bool) (n : ℕ) → (b ≡ true → o ≡ None) → cond b (Some n) o ≡ with_label o b n
 entered-new None true n h = refl
 entered-new None false n h = refl
 entered-new (Some k) true n h = let e : Some k ≡ None = h refl in cc

@@ -1,4 +1,4 @@
--- One more row: where a name then stands, and the map that says it.
+-- One more row: the place of a name then, and the map that says it.
 use Rattle.std.proofs.Common.{◌≡◌, ℕ, ◌+◌, Bool, true, false, cond, List, [], ◌∷◌, ◌++◌, length, Option, Some, None, refl, sym, ◌∙◌, ap, arith}
 use Rattle.std.specs.Map.{lookup}
 use Rattle.std.specs.List.{position_from}
@@ -12,7 +12,7 @@ use Rattle.s38_code.specs.declared.program.Row.{Row}
 use Rattle.s38_odt.specs.Table.{place_in}
 use Rattle.s38_odt.specs.Places.{IsTied}
 
--- what the first place is, of what stands before and of one more element
+-- what the first place is, of what comes before and of one more element
 abbrev or_at : Option ℕ → Bool → ℕ → Option ℕ
 or_at (Some k) b n = Some k
 or_at None b n = cond b (Some n) None
@@ -49,7 +49,7 @@ IsTied-push m n rows row tied absent updates = record {
       ∙ sym (place_in-push rows row q))));
 }
 
--- no name stands in no rows
+-- no name is in no rows
 pub IsTied-none : (m : BTreeMap (List ℕ) ℕ) → m.entries ≡ [] → IsTied m []
 unfolding place_in
 IsTied-none m e = record { place = λ q. ap (λ es. lookup (is_at (slice_cmp nat_cmp q)) es) e }

@@ -4,7 +4,8 @@ use Rattle.std.specs.Prelude.{IsTrue, unsigned_abs}
 use Rattle.std.proofs.Math.Nat.{pow-le-pow_right}
 use Rattle.std.proofs.lemmas.Bool.{cases_eq}
 use Rattle.std.proofs.lemmas.Bool.Decides.{nat_tests}
-use Rattle.s38_base.specs.Scalar.{fits, fits_bytes, is_numeric}
+use Rattle.s38_base.specs.Scalar.{fits, fits_bytes}
+use Rattle.s38_base.specs.Attributes.{is_numeric}
 use Rattle.s38_base.specs.declared.attr.Attr.{Attr}
 use Rattle.s38_base.specs.declared.attr.Attr.TheVariants.{Packed, Zoned, Binary, Chars, Pointer}
 

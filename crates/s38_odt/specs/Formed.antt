@@ -1,6 +1,6 @@
 -- What a caller may rely on in declarations that were checked.
 use Rattle.std.specs.Prelude.{◌≡◌, ◌≤◌, ℕ, ◌+◌, IsTrue, List, take, length, slice_get, Some, if◌then◌else◌}
-use Rattle.s38_base.specs.Scalar.{is_bounded, is_pointer_attr, length_of}
+use Rattle.s38_base.specs.Attributes.{is_bounded, is_pointer_attr, length_of}
 use Rattle.s38_base.specs.declared.attr.Attr.{Attr}
 use Rattle.s38_code.specs.declared.program.Form.{Form}
 use Rattle.s38_code.specs.declared.program.Form.TheVariants.{Local, Parm, Based, Handler}
@@ -17,7 +17,7 @@ pub record IsVariable (attr : Attr) (first : List ℕ) : Type 0 where
   pub begun : length first ≡ first_length attr
 
 -- its attribute keeps the bounds of a declaration, and its number, of 1 to 16, is the next one
-pub record IsNumbered (before : List Row) (k : ℕ) (attr : Attr) : Type 0 where
+pub record IsNextParameter (before : List Row) (k : ℕ) (attr : Attr) : Type 0 where
   pub bounded : IsTrue (is_bounded attr)
   pub few : k ≤ 16
   pub next : k ≡ parameter_count before + 1
@@ -29,10 +29,10 @@ pub record IsBased (before : List Row) (base offset : ℕ) (attr : Attr) : Type 
   pub declared : IsTrue (is_base_row (slice_get before base))
 
 -- of a form, by the number of the instructions and by the rows before it; control goes on at an instruction, or
--- behind the last
+-- past the last
 abbrev pub IsForm : ℕ → List Row → Form → Type 0
 IsForm count before (Local attr first) = IsVariable attr first
-IsForm count before (Parm k attr) = IsNumbered before k attr
+IsForm count before (Parm k attr) = IsNextParameter before k attr
 IsForm count before (Based base offset attr) = IsBased before base offset attr
 IsForm count before (Handler code at) = at ≤ count
 

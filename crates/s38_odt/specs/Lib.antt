@@ -5,4 +5,5 @@ pub mod OperandRules
 pub mod Places
 pub mod Suited
 pub mod Suits
+pub mod OperandAttributes
 pub mod Table

@@ -1,7 +1,7 @@
 -- An instruction that suits the declarations of its program: its operands are of the classes of its row.
 use Rattle.std.specs.Prelude.{ℕ, Bool, true, IsTrue, ◌==◌, List, length, nat_le}
 use Rattle.std.specs.List.{All, list_all}
-use Rattle.s38_base.specs.Scalar.{length_of}
+use Rattle.s38_base.specs.Attributes.{length_of}
 use Rattle.s38_code.specs.Operations.{classes, operand_rule}
 use Rattle.s38_code.specs.declared.program.Arg.{Arg}
 use Rattle.s38_code.specs.declared.program.Arg.TheVariants as args
@@ -16,7 +16,7 @@ abbrev pub is_filled : Arg → Bool
 is_filled (args.Literal attr bytes) = length bytes == length_of attr
 is_filled _ = true
 
--- a jump goes to an instruction, or behind the last
+-- a jump goes to an instruction, or past the last
 abbrev pub lands_in : ℕ → Arg → Bool
 lands_in count (args.Jump at) = nat_le at count
 lands_in count _ = true

@@ -1,10 +1,8 @@
 -- Which operands suit a class, by the declared attributes.
-use Rattle.std.specs.Prelude.{ℕ, ◌-◌, ◌%◌, ℤ, pos, negsuc, unsigned_abs, Bool, true, false, not, ◌&&◌, ◌||◌, ◌==◌, List, [], ◌∷◌, length, slice_get, nat_le, Option, Some, None}
+use Rattle.std.specs.Prelude.{ℕ, ◌-◌, ℤ, pos, negsuc, unsigned_abs, Bool, true, false, not, ◌&&◌, ◌||◌, List, [], ◌∷◌, length, nat_le, Option, Some, None}
 use Rattle.std.specs.List.{list_all}
-use Rattle.std.specs.Option.{option_and_then}
-use Rattle.s38_base.specs.Scalar.{is_bounded, is_numeric, is_pointer_attr, length_of}
+use Rattle.s38_base.specs.Attributes.{is_bounded, is_pointer_attr, length_of}
 use Rattle.s38_base.specs.declared.attr.Attr.{Attr}
-use Rattle.s38_base.specs.declared.attr.Attr.TheVariants.{Packed, Zoned, Binary, Chars, Pointer}
 use Rattle.s38_code.specs.declared.class.Class.{Class}
 use Rattle.s38_code.specs.declared.class.Class.TheVariants.{NumberSource, NumberReceiver, BytesSource, BytesOrNone, BytesReceiver, PointerSource, PointerReceiver, CellsSource, CellsReceiver, Context, ContextOrList, PointerOrNone, UserOrPublic, Handler, Argument, Constant, Keyword}
 use Rattle.s38_code.specs.declared.class.Constant.{Constant as ConstantClass}
@@ -14,44 +12,8 @@ use Rattle.s38_code.specs.declared.class.Keyword.TheVariants as keywords
 use Rattle.s38_code.specs.declared.program.Arg.{Arg}
 use Rattle.s38_code.specs.declared.program.Arg.TheVariants as args
 use Rattle.s38_code.specs.declared.program.Form.{Form}
-use Rattle.s38_code.specs.declared.program.Form.TheVariants as forms
 use Rattle.s38_code.specs.declared.program.Row.{Row}
-
--- ---- attributes of operands
-
--- a description of an exception has none
-abbrev pub form_attr : Form → Option Attr
-form_attr (forms.Local attr first) = Some attr
-form_attr (forms.Parm k attr) = Some attr
-form_attr (forms.Based base offset attr) = Some attr
-form_attr (forms.Handler code at) = None
-
-abbrev pub row_attr : List Row → ℕ → Option Attr
-row_attr rows item = option_and_then (λ row. form_attr row.form) (slice_get rows item)
-
--- the attribute of an item
-abbrev pub item_attr : List Row → Arg → Option Attr
-item_attr rows (args.Item item) = row_attr rows item
-item_attr rows _ = None
-
--- the attribute of an item or a literal
-abbrev pub operand_attr : List Row → Arg → Option Attr
-operand_attr rows (args.Item item) = row_attr rows item
-operand_attr rows (args.Literal attr bytes) = Some attr
-operand_attr rows _ = None
-
-abbrev pub is_number : Option Attr → Bool
-is_number None = false
-is_number (Some attr) = is_numeric attr
-
--- every attribute but a pointer's
-abbrev pub are_bytes : Option Attr → Bool
-are_bytes None = false
-are_bytes (Some attr) = not (is_pointer_attr attr)
-
-abbrev pub is_pointer : Option Attr → Bool
-is_pointer None = false
-is_pointer (Some attr) = is_pointer_attr attr
+use Rattle.s38_odt.specs.OperandAttributes.{are_bytes, can_be_passed, has_cells, is_attr_of_pointer, is_handler, is_numeric_attr, item_attr, item_row, operand_attr}
 
 -- ---- items by their form
 
@@ -59,41 +21,8 @@ abbrev pub form_suits : (Form → Bool) → Option Row → Bool
 form_suits suits None = false
 form_suits suits (Some row) = suits row.form
 
--- the declaration of an item
-abbrev pub row_of : List Row → Arg → Option Row
-row_of rows (args.Item item) = slice_get rows item
-row_of rows _ = None
-
 abbrev pub item_suits : (Form → Bool) → List Row → Arg → Bool
-item_suits suits rows arg = form_suits suits (row_of rows arg)
-
--- bytes that fill cells
-abbrev pub are_cells : Attr → Bool
-are_cells (Packed digits fraction) = false
-are_cells (Zoned digits fraction) = false
-are_cells (Binary size) = false
-are_cells (Chars len) = len % 16 == 0
-are_cells Pointer = true
-
--- a pointer, or bytes in a space that fill cells
-abbrev pub has_cells : Form → Bool
-has_cells (forms.Local attr first) = is_pointer_attr attr
-has_cells (forms.Parm k attr) = is_pointer_attr attr
-has_cells (forms.Based base offset attr) = are_cells attr
-has_cells (forms.Handler code at) = false
-
-abbrev pub is_handler : Form → Bool
-is_handler (forms.Local attr first) = false
-is_handler (forms.Parm k attr) = false
-is_handler (forms.Based base offset attr) = false
-is_handler (forms.Handler code at) = true
-
--- a variable or a parameter can be passed on
-abbrev pub can_be_passed : Form → Bool
-can_be_passed (forms.Local attr first) = true
-can_be_passed (forms.Parm k attr) = true
-can_be_passed (forms.Based base offset attr) = false
-can_be_passed (forms.Handler code at) = false
+item_suits suits rows arg = form_suits suits (item_row rows arg)
 
 -- ---- other operands
 
@@ -101,21 +30,21 @@ abbrev pub is_nothing : Arg → Bool
 is_nothing args.Nothing = true
 is_nothing _ = false
 
-abbrev pub is_machine : Arg → Bool
-is_machine args.MachineContext = true
-is_machine _ = false
+abbrev pub is_machine_word : Arg → Bool
+is_machine_word args.MachineContext = true
+is_machine_word _ = false
 
-abbrev pub is_list : Arg → Bool
-is_list args.ContextList = true
-is_list _ = false
+abbrev pub is_list_word : Arg → Bool
+is_list_word args.ContextList = true
+is_list_word _ = false
 
 abbrev pub is_id : Arg → Bool
 is_id (args.Ident id) = true
 is_id _ = false
 
-abbrev pub is_name : Arg → Bool
-is_name (args.Text name) = true
-is_name _ = false
+abbrev pub is_name_argument : Arg → Bool
+is_name_argument (args.Text name) = true
+is_name_argument _ = false
 
 abbrev pub is_jump : Arg → Bool
 is_jump (args.Jump at) = true
@@ -126,9 +55,9 @@ abbrev pub is_word_to : ℕ → Arg → Bool
 is_word_to most (args.Word word) = nat_le word most
 is_word_to most _ = false
 
-abbrev pub is_word : Arg → Bool
-is_word (args.Word word) = true
-is_word _ = false
+abbrev pub is_word_argument : Arg → Bool
+is_word_argument (args.Word word) = true
+is_word_argument _ = false
 
 abbrev pub is_natural_to : ℕ → ℤ → Bool
 is_natural_to most (pos n) = nat_le n most
@@ -159,8 +88,8 @@ have_room room [] = true
 have_room room (attr ∷ attrs) = nat_le (length_of attr) room && have_room (room - length_of attr) attrs
 
 -- 1 to 256 scalars, 4,096 bytes at most
-abbrev pub are_fields : List Attr → Bool
-are_fields attrs =
+abbrev pub are_field_attrs : List Attr → Bool
+are_field_attrs attrs =
     nat_le 1 (length attrs) && (nat_le (length attrs) 256 && (list_all is_scalar attrs && have_room 4096 attrs))
 
 abbrev pub attrs_suit : (List Attr → Bool) → Arg → Bool
@@ -176,42 +105,42 @@ constant_suits constants.Label arg = is_jump arg
 constant_suits constants.Whole arg = is_size arg
 constant_suits constants.Power arg = is_power arg
 constant_suits constants.Attribute arg = attrs_suit is_one_scalar arg
-constant_suits constants.Attributes arg = attrs_suit are_fields arg
-constant_suits constants.ExceptionCode arg = is_word arg
-constant_suits constants.TemplateName arg = is_name arg
-constant_suits constants.JobName arg = is_name arg
+constant_suits constants.Attributes arg = attrs_suit are_field_attrs arg
+constant_suits constants.ExceptionCode arg = is_word_argument arg
+constant_suits constants.TemplateName arg = is_name_argument arg
+constant_suits constants.JobName arg = is_name_argument arg
 
 -- a word of a fixed list, and of the relations the first six where two values are compared
 unfoldable pub keyword_suits : KeywordClass → Arg → Bool
 keyword_suits keywords.Comparison arg = is_word_to 5 arg
-keyword_suits _ arg = is_word arg
+keyword_suits _ arg = is_word_argument arg
 
 unfoldable pub suits : List Row → Class → Arg → Bool
-suits rows NumberSource arg = is_number (operand_attr rows arg)
-suits rows NumberReceiver arg = is_number (item_attr rows arg)
+suits rows NumberSource arg = is_numeric_attr (operand_attr rows arg)
+suits rows NumberReceiver arg = is_numeric_attr (item_attr rows arg)
 suits rows BytesSource arg = are_bytes (operand_attr rows arg)
 suits rows BytesOrNone arg = is_nothing arg || are_bytes (operand_attr rows arg)
 suits rows BytesReceiver arg = are_bytes (item_attr rows arg)
-suits rows PointerSource arg = is_pointer (item_attr rows arg)
-suits rows PointerReceiver arg = is_pointer (item_attr rows arg)
+suits rows PointerSource arg = is_attr_of_pointer (item_attr rows arg)
+suits rows PointerReceiver arg = is_attr_of_pointer (item_attr rows arg)
 suits rows CellsSource arg = item_suits has_cells rows arg
 suits rows CellsReceiver arg = item_suits has_cells rows arg
-suits rows Context arg = is_machine arg || is_pointer (item_attr rows arg)
-suits rows ContextOrList arg = is_list arg || (is_machine arg || is_pointer (item_attr rows arg))
-suits rows PointerOrNone arg = is_nothing arg || is_pointer (item_attr rows arg)
-suits rows UserOrPublic arg = is_nothing arg || is_pointer (item_attr rows arg)
+suits rows Context arg = is_machine_word arg || is_attr_of_pointer (item_attr rows arg)
+suits rows ContextOrList arg = is_list_word arg || (is_machine_word arg || is_attr_of_pointer (item_attr rows arg))
+suits rows PointerOrNone arg = is_nothing arg || is_attr_of_pointer (item_attr rows arg)
+suits rows UserOrPublic arg = is_nothing arg || is_attr_of_pointer (item_attr rows arg)
 suits rows Handler arg = item_suits is_handler rows arg
 suits rows Argument arg = item_suits can_be_passed rows arg
 suits rows (Constant constant) arg = constant_suits constant arg
 suits rows (Keyword keyword) arg = keyword_suits keyword arg
 
-abbrev pub is_argument : Class → Bool
-is_argument Argument = true
-is_argument _ = false
+abbrev pub class_is_argument : Class → Bool
+class_is_argument Argument = true
+class_is_argument _ = false
 
 -- an operand for each class, each in its place; arguments at the end may be left out
 abbrev pub all_suit : List Row → List Class → List Arg → Bool
 all_suit rows [] [] = true
 all_suit rows [] (arg ∷ args) = false
-all_suit rows (class ∷ classes) [] = is_argument class
+all_suit rows (class ∷ classes) [] = class_is_argument class
 all_suit rows (class ∷ classes) (arg ∷ args) = suits rows class arg && all_suit rows classes args

@@ -5,7 +5,7 @@ use Rattle.std.specs.Option.{option_and_then}
 use Rattle.std.specs.Str.{bytes_eq}
 use Rattle.s38_base.specs.NameText.{is_name}
 use Rattle.s38_base.specs.Exceptions as exceptions
-use Rattle.s38_base.specs.Scalar.{is_bounded, is_pointer_attr}
+use Rattle.s38_base.specs.Attributes.{is_bounded, is_pointer_attr}
 use Rattle.s38_base.specs.declared.attr.Attr.{Attr}
 use Rattle.s38_words.specs.DeclarationLine.{declaration_of, initial_of, is_in_range}
 use Rattle.s38_code.specs.declared.program.CreateFault.{CreateFault}
@@ -16,12 +16,12 @@ use Rattle.s38_code.specs.declared.program.Row.{Row}
 use Rattle.s38_words.specs.declared.declarations.DeclarationLine.{DeclarationLine}
 use Rattle.s38_words.specs.declared.declarations.Declares.{Declares}
 use Rattle.s38_words.specs.declared.declarations.Declares.TheVariants.{Variable, Parameter, BasedItem, Description}
-use Rattle.s38_odt.specs.First.{first_of}
+use Rattle.s38_odt.specs.First.{initial_bytes}
 use Rattle.s38_odt.specs.Labels.{label_in}
 
 -- ---- names
 
--- where a name stands among rows, from 0 on
+-- the place of a name among rows, from 0 on
 unfoldable pub place_in : List Row → List ℕ → Option ℕ
 place_in rows name = position_from (λ row. bytes_eq row.name name) 0 rows
 
@@ -32,15 +32,15 @@ item_of rows word = if is_name word then place_in rows word else None
 -- ---- bases
 
 -- a variable or a parameter that holds a pointer
-abbrev pub is_base : Form → Bool
-is_base (Local attr first) = is_pointer_attr attr
-is_base (Parm k attr) = is_pointer_attr attr
-is_base (Based base offset attr) = false
-is_base (Handler code at) = false
+abbrev pub is_base_form : Form → Bool
+is_base_form (Local attr first) = is_pointer_attr attr
+is_base_form (Parm k attr) = is_pointer_attr attr
+is_base_form (Based base offset attr) = false
+is_base_form (Handler code at) = false
 
 abbrev pub is_base_row : Option Row → Bool
 is_base_row None = false
-is_base_row (Some row) = is_base row.form
+is_base_row (Some row) = is_base_form row.form
 
 abbrev pub base_at : List Row → ℕ → Option ℕ
 base_at rows k = if is_base_row (slice_get rows k) then Some k else None
@@ -92,7 +92,7 @@ handler_form taken (Some at) = Ok (Handler taken at)
 
 -- what a bounded line makes of its name, before these lines of code
 unfoldable pub form_of : List (List ℕ) → List Row → Option (List ℕ) → Declares → Result Form ℕ
-form_of code rows literal (Variable attr) = variable_form attr (first_of attr literal)
+form_of code rows literal (Variable attr) = variable_form attr (initial_bytes attr literal)
 form_of code rows literal (Parameter k attr) = parameter_form rows k attr
 form_of code rows literal (BasedItem base offset attr) = based_form offset attr (base_in rows base)
 form_of code rows literal (Description taken label) = handler_form taken (label_in code label)
@@ -109,18 +109,18 @@ abbrev pub row_from : List (List ℕ) → List Row → Option (List ℕ) → Opt
 row_from code rows literal None = Err exceptions.declaration_invalid
 row_from code rows literal (Some line) = new_row rows line.name (checked_form code rows literal line.declares)
 
--- the row that a line makes behind these rows and before these lines of code, or the cause for which it is refused
-unfoldable pub row_of : List (List ℕ) → List Row → List ℕ → Result Row ℕ
-row_of code rows line = row_from code rows (initial_of line) (declaration_of line)
+-- the row that a line makes after these rows and before these lines of code, or the cause for which it is refused
+unfoldable pub row_made : List (List ℕ) → List Row → List ℕ → Result Row ℕ
+row_made code rows line = row_from code rows (initial_of line) (declaration_of line)
 
 -- ---- all declarations
 
-abbrev pub refused : List Row → ℕ → CreateFault
-refused rows cause = Bad cause (length rows + 1)
+abbrev pub row_refused : List Row → ℕ → CreateFault
+row_refused rows cause = Bad cause (length rows + 1)
 
 -- the rows so far and one more, or the fault with the number of its declaration
 abbrev pub more_rows : List Row → Result Row ℕ → Result (List Row) CreateFault
-more_rows rows (Err cause) = Err (refused rows cause)
+more_rows rows (Err cause) = Err (row_refused rows cause)
 more_rows rows (Ok row) = Ok (rows ++ row ∷ [])
 
 abbrev pub and_then : Result (List Row) CreateFault → (List Row → Result (List Row) CreateFault) → Result (List Row) CreateFault
@@ -130,7 +130,7 @@ and_then (Ok rows) next = next rows
 -- the rows so far and those of further lines, up to the first bad one
 abbrev pub rows_from : List (List ℕ) → List Row → List (List ℕ) → Result (List Row) CreateFault
 rows_from code rows [] = Ok rows
-rows_from code rows (line ∷ lines) = and_then (more_rows rows (row_of code rows line)) (λ more. rows_from code more lines)
+rows_from code rows (line ∷ lines) = and_then (more_rows rows (row_made code rows line)) (λ more. rows_from code more lines)
 
 -- the rows of all declarations before these lines of code, or the first bad one
 unfoldable pub rows_of : List (List ℕ) → List (List ℕ) → Result (List Row) CreateFault

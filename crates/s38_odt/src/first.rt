@@ -1,6 +1,6 @@
 ghost use Rattle.std.specs.Prelude.{◌≡◌, ◌≤◌, length, IfOk};
 ghost use Rattle.std.specs.Option.{option_map};
-ghost use Rattle.s38_odt.specs.First.{blank_of, filled, first_of, literal_held, text_held};
+ghost use Rattle.s38_odt.specs.First.{blank_filled, blank_of, initial_bytes, literal_held, text_held};
 
 use crate::image::{number_held, units_held};
 use s38_base::{Attr, Bytes, NoMemory};
@@ -13,7 +13,7 @@ const BLANK: u8 = 0x40;
 /// The text, filled with blanks.
 fn filled(text: Bytes, len: usize) -> Result<Bytes, NoMemory>
     requires { length text ≤ len }
-    ensures { IfOk result (λ bytes. bytes ≡ filled len text) }
+    ensures { IfOk result (λ bytes. bytes ≡ blank_filled len text) }
 {
     let mut bytes = text;
     bytes.resize(len, BLANK)?;
@@ -63,7 +63,7 @@ fn literal_held(alloc: Global, attr: Attr, literal: &[u8]) -> Result<Option<Byte
 /// The bytes with which a variable begins, with a literal or without one; None exactly where the attribute
 /// does not hold the literal exactly.
 pub fn first(alloc: Global, attr: Attr, literal: Option<&[u8]>) -> Result<Option<Bytes>, NoMemory>
-    ensures { IfOk result (λ bytes. bytes ≡ first_of attr (option_map (λ text. text.now) literal.entry)) }
+    ensures { IfOk result (λ bytes. bytes ≡ initial_bytes attr (option_map (λ text. text.now) literal.entry)) }
 {
     match literal {
         None => blank(alloc, attr),

@@ -1,9 +1,9 @@
 ghost use Rattle.std.specs.Prelude.{◌≡◌, ◌≤◌, IsTrue, IfOk, None, length};
 ghost use Rattle.std.specs.Option.{option_map};
-ghost use Rattle.s38_odt.specs.First.{first_of};
+ghost use Rattle.s38_odt.specs.First.{initial_bytes};
 ghost use Rattle.s38_odt.specs.Labels.{label_in};
 ghost use Rattle.s38_odt.specs.Places.{IsTied};
-ghost use Rattle.s38_odt.specs.Table.{attribute_bounded, base_in, based_form, checked_form, form_of, handler_form, is_bounded_line, parameter_count, parameter_form, place_in, row_of, variable_form};
+ghost use Rattle.s38_odt.specs.Table.{attribute_bounded, base_in, based_form, checked_form, form_of, handler_form, is_bounded_line, parameter_count, parameter_form, place_in, row_made, variable_form};
 
 use crate::first::first;
 use crate::labels::CodeLines;
@@ -37,7 +37,7 @@ fn variable(
     attr: Attr,
     literal: Option<&[u8]>,
 ) -> Result<Result<Form, u16>, NoMemory>
-    ensures { IfOk result (λ form. form ≡ variable_form attr (first_of attr (option_map (λ text. text.now) literal.entry))) }
+    ensures { IfOk result (λ form. form ≡ variable_form attr (initial_bytes attr (option_map (λ text. text.now) literal.entry))) }
 {
     match first(alloc, attr, literal)? {
         Some(first) => Ok(Ok(Form::Local { attr, first })),
@@ -118,9 +118,9 @@ fn checked_form(
     }
 }
 
-/// The row that a line makes behind those that are declared and before the code, or the cause for which it is
+/// The row that a line makes after those that are declared and before the code, or the cause for which it is
 /// refused.
-#[tactic(auto, unfolding(crate::specs::Table::row_of))]
+#[tactic(auto, unfolding(crate::specs::Table::row_made))]
 pub fn row(
     alloc: Global,
     code: &CodeLines<'_>,
@@ -128,7 +128,7 @@ pub fn row(
     line: &[u8],
 ) -> Result<Result<Row, u16>, NoMemory>
     requires { IsTied declared.now.places declared.now.rows.items }
-    ensures row { IfOk result (λ answer. answer ≡ row_of code.now declared.now.rows.items line.now) }
+    ensures row { IfOk result (λ answer. answer ≡ row_made code.now declared.now.rows.items line.now) }
     ensures new { IfOk result (λ answer. IfOk answer (λ row. place_in declared.now.rows.items row.name ≡ None)) }
 {
     let Some(declared_line) = declaration(line) else {

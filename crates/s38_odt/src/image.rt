@@ -1,6 +1,7 @@
 ghost use Rattle.std.specs.Prelude.{◌≡◌, ◌^◌, ◌-◌, ◌*◌, ◌≤◌, ◌<◌, min, IsTrue, IfOk, pos};
 ghost use Rattle.std.specs.Option.{option_map};
-ghost use Rattle.s38_base.specs.Scalar.{fits, is_numeric};
+ghost use Rattle.s38_base.specs.Scalar.{fits};
+ghost use Rattle.s38_base.specs.Attributes.{is_numeric};
 ghost use Rattle.s38_base.specs.declared.attr.Attr.{Attr};
 ghost use Rattle.s38_odt.specs.First.{fewer_digits, is_exact, magnitude_in, more_digits, number_held, units_held};
 

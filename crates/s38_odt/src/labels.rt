@@ -35,7 +35,7 @@ fn enter(labels: &mut LabelPlaces, name: Name, at: u32) -> Result<(), NoMemory>
     Ok(())
 }
 
-/// Where each label stands: before how many instructions. The first of two labels of one name counts.
+/// The place of each label: before how many instructions it is. The first of two labels of one name counts.
 fn labels_of(alloc: Global, code: &Lines<'_>) -> Result<LabelPlaces, NoMemory>
     requires { instruction_count code.now ≤ 16384 }
     ensures { IfOk result (λ labels. HasLabels code.now labels) }
@@ -51,7 +51,7 @@ fn labels_of(alloc: Global, code: &Lines<'_>) -> Result<LabelPlaces, NoMemory>
     Ok(labels)
 }
 
-/// The lines of a program's code, and where each label stands in them. Contracts see it as the list of the
+/// The lines of a program's code, and the place of each label in them. Contracts see it as the list of the
 /// lines.
 #[derive(Drop)]
 pub struct CodeLines<'a> {
@@ -87,7 +87,7 @@ impl<'a> CodeLines<'a> {
         self.lines.iter()
     }
 
-    /// The place at which a label stands: before the instruction of this number, from 0 on; None exactly where
+    /// The place of a label: the number of the instruction before which it is, from 0 on; None exactly where
     /// no line is this label.
     pub fn place(&self, name: &Name) -> Option<u32>
         ensures { result ≡ label_in self.now name.now }

@@ -1,5 +1,5 @@
 //! The object definition table of a program: its declarations, checked in order, each with what its name
-//! stands for and the bytes with which it begins.
+//! means and the bytes with which it begins.
 #![tactic(auto)]
 
 mod first;

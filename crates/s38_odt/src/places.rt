@@ -1,6 +1,6 @@
 ghost use Rattle.std.specs.Prelude.{◌≡◌, ◌≤◌, ◌<◌, ◌++◌, ◌∷◌, [], length, slice_get, is_some, None, OnOk};
 ghost use Rattle.s38_odt.specs.Places.{IsTied};
-ghost use Rattle.s38_odt.specs.Table.{base_in, is_base, is_base_row, is_parameter, item_of, parameter_count, place_in};
+ghost use Rattle.s38_odt.specs.Table.{base_in, is_base_form, is_base_row, is_parameter, item_of, parameter_count, place_in};
 
 use s38_base::{Name, NoMemory};
 use s38_code::{Form, Row};
@@ -9,14 +9,14 @@ use std::collections::BTreeMap;
 /// The number of each declared name's item.
 pub type Places = BTreeMap<Name, u16>;
 
-/// Rows, and where each name stands among them.
+/// Rows, and the place of each name among them.
 #[derive(Drop)]
 pub struct Declared {
     pub rows: Vec<Row>,
     pub places: Places,
 }
 
-/// Whether a name stands there already.
+/// Whether a name is there already.
 pub fn is_declared(declared: &Declared, name: &Name) -> bool
     requires { IsTied declared.now.places declared.now.rows.items }
     ensures { result ≡ is_some (place_in declared.now.rows.items name.now) }
@@ -26,7 +26,7 @@ pub fn is_declared(declared: &Declared, name: &Name) -> bool
 
 /// A variable or a parameter that holds a pointer.
 fn is_base(form: &Form) -> bool
-    ensures { result ≡ is_base form.now }
+    ensures { result ≡ is_base_form form.now }
 {
     match form {
         Form::Local { attr, .. } => attr.is_pointer(),

@@ -1,7 +1,7 @@
 ghost use Rattle.std.specs.Prelude.{◌≡◌, ◌⊎◌, ◌≤◌, ◌<◌, length, [], Ok, Err, IfOk, IfErr, OnOk};
 ghost use Rattle.s38_odt.specs.Formed.{AreFormed};
 ghost use Rattle.s38_odt.specs.Labels.{instruction_count};
-ghost use Rattle.s38_odt.specs.Table.{item_of, more_rows, place_in, row_of, rows_from, rows_of};
+ghost use Rattle.s38_odt.specs.Table.{item_of, more_rows, place_in, row_made, rows_from, rows_of};
 ghost use Rattle.s38_odt.specs.Places.{IsTied};
 ghost use Rattle.s38_code.specs.declared.program.CreateFault.{CreateFault};
 
@@ -67,7 +67,7 @@ impl Odt {
     }
 }
 
-/// Checks one more line behind those that are declared; the cause, if it is refused.
+/// Checks one more line after those that are declared; the cause, if it is refused.
 fn declare(
     alloc: Global,
     code: &CodeLines<'_>,
@@ -77,8 +77,8 @@ fn declare(
     requires tied { IsTied declared.old.places declared.old.rows.items }
     requires few { length declared.old.rows.items < 1024 }
     ensures tied { IfOk result (λ answer. OnOk answer (IsTied declared.new.places declared.new.rows.items)) }
-    ensures rows { IfOk result (λ answer. OnOk answer (more_rows declared.old.rows.items (row_of code.now declared.old.rows.items line.now) ≡ Ok declared.new.rows.items)) }
-    ensures refused { IfOk result (λ answer. IfErr answer (λ cause. row_of code.now declared.old.rows.items line.now ≡ Err cause)) }
+    ensures rows { IfOk result (λ answer. OnOk answer (more_rows declared.old.rows.items (row_made code.now declared.old.rows.items line.now) ≡ Ok declared.new.rows.items)) }
+    ensures refused { IfOk result (λ answer. IfErr answer (λ cause. row_made code.now declared.old.rows.items line.now ≡ Err cause)) }
 {
     match row(alloc, code, declared, line)? {
         Err(cause) => Ok(Err(cause)),
@@ -89,7 +89,7 @@ fn declare(
     }
 }
 
-/// The declarations of these lines, and where each name stands among them.
+/// The declarations of these lines, and the place of each name among them.
 fn declarations(
     alloc: Global,
     code: &CodeLines<'_>,
@@ -115,7 +115,7 @@ fn declarations(
     Ok(declared)
 }
 
-/// The object definition table of a program's declarations, which stand before this code. `Bad` exactly where one
+/// The object definition table of a program's declarations, which come before this code. `Bad` exactly where one
 /// of them is bad: at the first, with its number from 1 on, and 2A02 or 2A03 as its cause.
 #[tactic(auto, unfolding(crate::specs::Table::rows_of))]
 pub fn definition_table(
@@ -135,7 +135,7 @@ pub fn definition_table(
     }
 }
 
-/// The rows of a program's declarations, which stand before this code. `Bad` exactly where one of them is bad: at
+/// The rows of a program's declarations, which come before this code. `Bad` exactly where one of them is bad: at
 /// the first, with its number from 1 on, and 2A02 or 2A03 as its cause.
 pub fn rows(alloc: Global, code: &CodeLines<'_>, lines: &Lines<'_>) -> Result<Rows, CreateFault>
     requires { length lines.now ≤ 1024 }

@@ -1,16 +1,16 @@
--- The fields of an entry that lies in a space, one behind another.
+-- The fields of an entry that lies in a space, one after another.
 use Rattle.std.proofs.Common.{◌≡◌, ℕ, ◌+◌, ◌-◌, ◌≤◌, Bool, ◌&&◌, List, [], ◌∷◌, drop, get_or, length, take, true, arith, ap, sym, ◌∙◌, refl}
 use Rattle.std.proofs.lemmas.Bool.Decides.{nat_tests}
 use Rattle.std.proofs.lemmas.List.{drop-drop, drop-take, take-take}
 use Rattle.std.proofs.lemmas.List.Sums.{sum_by-cons}
 use Rattle.std.proofs.Math.Seq.{take-length}
 use Rattle.s38_base.specs.declared.attr.Attr.{Attr}
-use Rattle.s38_base.specs.Scalar.{length_of}
+use Rattle.s38_base.specs.Attributes.{length_of}
 use Rattle.s38_dataspaces.specs.Table.{entry_len}
 use Rattle.s38_dataspaces.specs.Values.{have_values, is_valued}
 use Rattle.s38_memory.specs.declared.cell.Cell.{Cell}
 use Rattle.s38_memory.specs.Tagged.{bytes_in, is_within}
-use Rattle.s38_rules.specs.Cells.{bytes_there}
+use Rattle.s38_rules.specs.state.Cells.{bytes_there}
 
 -- the first field of a piece
 pub first_field : (cells : List Cell) (at len rest : ℕ) → is_within at (len + rest) cells ≡ true
@@ -19,7 +19,7 @@ first_field cells at len rest within =
     let here : is_within at len cells ≡ true = grind (arith, nat_tests, within) in
     rw here (take-take len (len + rest) (drop at (bytes_in cells)) (omega arith))
 
--- and those behind it
+-- and those after it
 pub other_fields : (cells : List Cell) (at len rest : ℕ)
     → drop len (take (len + rest) (drop at (bytes_in cells))) ≡ take rest (drop (at + len) (bytes_in cells))
 other_fields cells at len rest =

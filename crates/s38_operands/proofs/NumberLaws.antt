@@ -5,7 +5,8 @@ use Rattle.std.proofs.lemmas.Bool.Decides.{nat_tests}
 use Rattle.std.proofs.Math.Nat.{one-le-pow}
 use Rattle.s38_base.specs.declared.attr.Attr.{Attr}
 use Rattle.s38_base.specs.declared.attr.Attr.TheVariants.{Packed, Zoned, Binary, Chars, Pointer}
-use Rattle.s38_base.specs.Scalar.{fits, fraction_of, is_numeric, length_of, value_of}
+use Rattle.s38_base.specs.Scalar.{fits, value_of}
+use Rattle.s38_base.specs.Attributes.{fraction_of, is_numeric, length_of}
 
 -- a number has 1 to 31 bytes
 pub numeric_length : (a : Attr) → IsTrue (is_numeric a) → (1 ≤ length_of a) × (length_of a ≤ 31)
@@ -29,7 +30,7 @@ pub no_number : (a : Attr) (bytes : List ℕ) → is_numeric a ≡ false → val
 unfolding value_of
 no_number a bytes h = rw h refl
 
--- at most 31 digits stand behind the point
+-- at most 31 digits follow the point
 pub fraction_small : (a : Attr) (z : ℤ) → IsTrue (fits a z) → fraction_of a < 39
 unfolding fits
 fraction_small (Packed digits fraction) z h = grind (arith, nat_tests, h)

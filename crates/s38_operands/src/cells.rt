@@ -2,7 +2,7 @@
 ghost use Rattle.std.specs.Prelude.{◌≡◌, ◌≤◌, ◌%◌, All, OnOk, OnErr, Some};
 ghost use Rattle.s38_memory.specs.Cell.{IsCell};
 ghost use Rattle.s38_memory.specs.Tagged.{resized};
-ghost use Rattle.s38_rules.specs.Cells.{with_bytes, with_cells, with_pointer};
+ghost use Rattle.s38_rules.specs.state.Cells.{with_bytes, with_cells, with_pointer};
 
 use s38_base::{NoMemory, Pointer};
 use s38_memory::{Cell, Tagged};

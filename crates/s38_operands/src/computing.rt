@@ -1,8 +1,8 @@
 //! Computations that the machine does, since an operand lies in a space.
 ghost use Rattle.std.specs.Prelude.{◌≡◌, IfOk, length, replicate};
 ghost use Rattle.std.specs.Option.{option_copied};
-ghost use Rattle.s38_rules.specs.Computing.{computing_fails, computing_gives, computing_needs, held_in, is_call, of_operands, offset_needs, power_of, receiver_at, receiver_attr, shift_at};
-ghost use Rattle.s38_rules.specs.Operands.{place as operand};
+ghost use Rattle.s38_rules.specs.families.Computing.{computing_fails, computing_gives, computing_needs, held_in, is_call, of_operands, offset_needs, power_of, receiver_at, receiver_attr, shift_at};
+ghost use Rattle.s38_rules.specs.ask.Operands.{place as operand};
 
 use crate::hex::are_hex_of;
 use crate::needs::{Needs, need};
@@ -119,7 +119,7 @@ impl<'a> Sources for AtOperands<'a> {
 }
 
 /// What a computation signals; None also for another instruction. It takes no memory.
-#[tactic(auto, unfolding(s38_rules::specs::Computing::computing_fails))]
+#[tactic(auto, unfolding(s38_rules::specs::families::Computing::computing_fails))]
 pub fn computing_fails(objects: &Objects, request: &Request) -> Option<Exception>
     ensures { result ≡ computing_fails objects.now request.now }
 {
@@ -128,7 +128,7 @@ pub fn computing_fails(objects: &Objects, request: &Request) -> Option<Exception
 }
 
 /// The value that a computation gives; None where it signals, and for another instruction.
-#[tactic(auto, unfolding(s38_rules::specs::Computing::computing_gives))]
+#[tactic(auto, unfolding(s38_rules::specs::families::Computing::computing_gives))]
 pub fn computing_gives(
     alloc: Global,
     objects: &Objects,
@@ -156,7 +156,7 @@ fn offset_needs() -> Needs
 }
 
 /// What a computation needs of its operands.
-#[tactic(auto, unfolding(s38_rules::specs::Computing::computing_needs))]
+#[tactic(auto, unfolding(s38_rules::specs::families::Computing::computing_needs))]
 pub fn computing_needs(op: Op) -> Needs
     ensures { result ≡ computing_needs op }
 {
@@ -186,7 +186,7 @@ pub fn receiver_at(op: Op, operands: &[Operand]) -> Option<&Operand>
     }
 }
 
-/// How many bytes behind the beginning of its receiver a copy at the right goes.
+/// How many bytes past the beginning of its receiver a copy at the right begins.
 pub fn shift_at(objects: &Objects, op: Op, operands: &[Operand]) -> u16
     ensures { result ≡ shift_at objects.now op operands.now }
 {

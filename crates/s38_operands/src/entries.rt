@@ -2,12 +2,12 @@
 //! field.
 ghost use Rattle.std.specs.Prelude.{◌≡◌, ◌+◌, ◌≤◌, [], drop, length, take, true};
 ghost use Rattle.std.specs.Option.{option_copied, unwrap_or};
-ghost use Rattle.s38_base.specs.Scalar.{length_of};
+ghost use Rattle.s38_base.specs.Attributes.{length_of};
 ghost use Rattle.s38_dataspaces.specs.Table.{entry_len};
 ghost use Rattle.s38_dataspaces.specs.Values.{have_values, is_valued};
 ghost use Rattle.s38_memory.specs.Tagged.{bytes_in, is_within};
-ghost use Rattle.s38_rules.specs.Cells.{bytes_there};
-ghost use Rattle.s38_rules.specs.Operands.{bytes_at, bytes_of};
+ghost use Rattle.s38_rules.specs.state.Cells.{bytes_there};
+ghost use Rattle.s38_rules.specs.ask.Operands.{bytes_at, bytes_of};
 
 use crate::numbers::read_in;
 use crate::operands::place;

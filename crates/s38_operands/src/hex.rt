@@ -2,8 +2,8 @@
 ghost use Rattle.std.specs.Prelude.{◌≡◌, ◌+◌, ◌≤◌, [], drop, take, true};
 ghost use Rattle.std.specs.Option.{option_copied, unwrap_or};
 ghost use Rattle.s38_memory.specs.Tagged.{bytes_in, is_within};
-ghost use Rattle.s38_rules.specs.Cells.{bytes_there};
-ghost use Rattle.s38_rules.specs.Operands.{bytes_of};
+ghost use Rattle.s38_rules.specs.state.Cells.{bytes_there};
+ghost use Rattle.s38_rules.specs.ask.Operands.{bytes_of};
 ghost use Rattle.s38_strings.specs.Hex.{are_hex};
 
 use s38_base::Pointer;

@@ -3,9 +3,9 @@
 ghost use Rattle.std.specs.Prelude.{◌≡◌, ◌≤◌, ◌<◌, ◌^◌, [], IsTrue, length, take, drop};
 ghost use Rattle.std.specs.Option.{option_copied, unwrap_or};
 ghost use Rattle.s38_memory.specs.Tagged.{bytes_in, is_within};
-ghost use Rattle.s38_rules.specs.Cells.{bytes_there};
-ghost use Rattle.s38_rules.specs.Operands.{bytes_at, bytes_of};
-ghost use Rattle.s38_rules.specs.Queues.{relation_at};
+ghost use Rattle.s38_rules.specs.state.Cells.{bytes_there};
+ghost use Rattle.s38_rules.specs.ask.Operands.{bytes_at, bytes_of};
+ghost use Rattle.s38_rules.specs.families.Queues.{relation_at};
 
 use crate::operands::{place, word_at};
 use s38_base::{Pointer, Relation};

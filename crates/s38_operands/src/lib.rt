@@ -1,4 +1,4 @@
-//! What stands at an operand, over the objects that are there, and what families of instructions share: readings of
+//! What an operand is, over the objects that are there, and what families of instructions share: readings of
 //! computations, values, needs.
 #![tactic(auto)]
 

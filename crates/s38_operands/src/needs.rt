@@ -1,6 +1,6 @@
 //! What an instruction needs of its operands, in a list that takes no memory.
 ghost use Rattle.std.specs.Prelude.{◌≡◌, ◌+◌, ◌<◌, ◌≤◌, [], ◌∷◌, ◌++◌, length};
-ghost use Rattle.s38_rules.specs.Needs.{claimed, governed, need, on_implied, on_object};
+ghost use Rattle.s38_rules.specs.ask.Needs.{claimed, governed, need, on_implied, on_object};
 
 use s38_base::{Category, ObjNum, Rights};
 use s38_rules::{Claim, Named, Need, PointerKind, Sought};
@@ -37,7 +37,7 @@ impl Model for Needs {
     ghost invariant = { λ n. n.count ≤ 3 };
 }
 
-/// These needs, and others behind them.
+/// These needs, and others after them.
 fn add_all(all: &mut Needs, needs: &[Need])
     requires { length all.old + length needs.now ≤ 3 }
     ensures { all.new ≡ all.old ++ needs.now }
@@ -74,7 +74,7 @@ impl Needs {
         }
     }
 
-    /// One need more, behind the others.
+    /// One need more, after the others.
     fn add(&mut self, need: Need)
         requires { length self.old < 3 }
         ensures { self.new ≡ self.old ++ need ∷ [] }
@@ -83,7 +83,7 @@ impl Needs {
         self.count += 1;
     }
 
-    /// These needs, and others behind them; there is room for all.
+    /// These needs, and others after them; there is room for all.
     pub fn and(self, others: Needs) -> Needs
         requires { length self + length others ≤ 3 }
         ensures { result ≡ self ++ others }

@@ -1,10 +1,11 @@
 //! Numbers that an instruction reads; no memory is taken.
 ghost use Rattle.std.specs.Prelude.{◌≡◌, [], IfSome, IsTrue, Some};
 ghost use Rattle.std.specs.Option.{option_copied, option_map, unwrap_or};
-ghost use Rattle.s38_base.specs.Scalar.{fraction_of, is_numeric, length_of, value_of};
-ghost use Rattle.s38_rules.specs.DataSpaces.{ordinal_at, ordinal_of};
-ghost use Rattle.s38_rules.specs.Operands.{bytes_of, count_at, count_of, number_at, place as operand, scalar_attr};
-ghost use Rattle.s38_rules.specs.Cells.{bytes_there};
+ghost use Rattle.s38_base.specs.Scalar.{value_of};
+ghost use Rattle.s38_base.specs.Attributes.{fraction_of, is_numeric, length_of};
+ghost use Rattle.s38_rules.specs.families.CursorSeeks.{ordinal_at, ordinal_of};
+ghost use Rattle.s38_rules.specs.ask.Operands.{bytes_of, count_at, count_of, number_at, place as operand, scalar_attr};
+ghost use Rattle.s38_rules.specs.state.Cells.{bytes_there};
 
 use crate::operands::{place, scalar_attr};
 use s38_base::{Attr, Pointer};

@@ -1,12 +1,13 @@
-//! What stands at an operand, where no object is asked.
+//! What an operand is, where no object is asked.
 ghost use Rattle.std.specs.Prelude.{◌≡◌};
 ghost use Rattle.std.specs.Option.{option_copied};
-ghost use Rattle.s38_rules.specs.Operands.{attr_at, attr_of, id_at, id_of, is_given, is_given_in, is_in_space, is_list, is_list_in, is_machine, is_machine_in, place, rights_at, room_at, room_of, scalar_attr, whole_at, whole_of, word_at, word_of};
+ghost use Rattle.s38_rules.specs.ask.Operands.{attr_at, attr_of, id_at, id_of, is_given, is_given_in, is_list, is_list_in, is_machine, is_machine_in, place, rights_at, room_at, room_of, scalar_attr, whole_at, whole_of, word_at, word_of};
+ghost use Rattle.s38_rules.specs.ask.Receivers.{is_in_space};
 
 use s38_base::{Attr, Id, Rights};
 use s38_code::Operand;
 
-/// What stands at an operand, from 1 on.
+/// What is written at an operand; operands count from 1.
 #[inline(always)]
 pub fn place(operands: &[Operand], k: usize) -> Option<&Operand>
     ensures { option_copied result ≡ place operands.now k }
@@ -24,7 +25,7 @@ fn is_given_in(operand: Option<&Operand>) -> bool
     }
 }
 
-/// Whether something stands there, and not `*NONE`.
+/// Whether something is written there, and not `*NONE`.
 pub fn is_given(operands: &[Operand], k: usize) -> bool
     ensures { result ≡ is_given operands.now k }
 {
@@ -40,7 +41,7 @@ fn is_list_in(operand: Option<&Operand>) -> bool
     }
 }
 
-/// Whether `*LIST` stands there.
+/// Whether it is `*LIST`.
 pub fn is_list(operands: &[Operand], k: usize) -> bool
     ensures { result ≡ is_list operands.now k }
 {
@@ -116,7 +117,7 @@ fn is_machine_in(operand: Option<&Operand>) -> bool
     matches!(operand, Some(Operand::MachineContext))
 }
 
-/// Whether `*MACHINE` stands there.
+/// Whether it is `*MACHINE`.
 pub fn is_machine(operands: &[Operand], k: usize) -> bool
     ensures { result ≡ is_machine operands.now k }
 {

@@ -1,7 +1,7 @@
 ghost use Rattle.std.specs.Prelude.{◌≡◌, ◌≤◌};
 ghost use Rattle.std.specs.Option.{option_copied, unwrap_or};
-ghost use Rattle.s38_queues.specs.MessageQueue.{image_size};
-ghost use Rattle.s38_rules.specs.Parts.{no_queue, queue_at};
+ghost use Rattle.s38_queues.specs.MessageQueue.{queue_image_size};
+ghost use Rattle.s38_rules.specs.state.PartsAt.{no_queue, queue_at};
 
 use s38_base::ObjNum;
 use s38_objects::Objects;
@@ -22,7 +22,7 @@ pub fn facts_of_queue(queue: Option<&Queue>) -> QueueFacts
     ensures order { result.order ≡ (unwrap_or (option_copied queue.entry) no_queue).order }
     ensures key_len { result.key_len ≡ (unwrap_or (option_copied queue.entry) no_queue).key_len }
     ensures longest { result.longest ≡ (unwrap_or (option_copied queue.entry) no_queue).longest }
-    ensures size { result.size ≡ image_size (unwrap_or (option_copied queue.entry) no_queue).messages }
+    ensures size { result.size ≡ queue_image_size (unwrap_or (option_copied queue.entry) no_queue).messages }
     ensures bound { result.size ≤ 16777216 }
 {
     match queue {
@@ -46,7 +46,7 @@ pub fn queue_facts(objects: &Objects, number: ObjNum) -> QueueFacts
     ensures order { result.order ≡ (queue_at objects.now number.0).order }
     ensures key_len { result.key_len ≡ (queue_at objects.now number.0).key_len }
     ensures longest { result.longest ≡ (queue_at objects.now number.0).longest }
-    ensures size { result.size ≡ image_size (queue_at objects.now number.0).messages }
+    ensures size { result.size ≡ queue_image_size (queue_at objects.now number.0).messages }
     ensures bound { result.size ≤ 16777216 }
 {
     facts_of_queue(objects.queue(number))

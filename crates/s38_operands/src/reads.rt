@@ -2,8 +2,8 @@
 ghost use Rattle.std.specs.Prelude.{◌≡◌, [], All, IfOk, IfSome, length};
 ghost use Rattle.std.specs.Option.{option_copied, unwrap_or};
 ghost use Rattle.s38_memory.specs.Cell.{IsCell};
-ghost use Rattle.s38_rules.specs.Held.{Held};
-ghost use Rattle.s38_rules.specs.Operands.{bytes_at, bytes_of, cells_of, pointer_at, pointer_in, pointer_of, size_at, source_cells, target};
+ghost use Rattle.s38_rules.specs.state.Held.{Held};
+ghost use Rattle.s38_rules.specs.ask.Operands.{bytes_at, bytes_of, cells_of, pointer_at, pointer_in, pointer_of, size_at, source_cells, target};
 ghost use Rattle.s38_compute.specs.Piece.{piece_bytes};
 
 use crate::operands::place;
@@ -15,7 +15,7 @@ use s38_memory::{Cell, Tagged};
 use s38_objects::Objects;
 use std::alloc::Global;
 
-/// A pointer in a space stands in a cell.
+/// The pointer in the cell at a place of a space.
 #[inline(never)]
 fn pointer_in(space: Option<&Tagged>, at: u64, attr: Attr) -> Option<Pointer>
     ensures { result ≡ pointer_in (unwrap_or (option_copied space.entry) []) at attr }
@@ -109,7 +109,7 @@ fn lent_of(operand: Option<&Operand>) -> Option<&[u8]>
     }
 }
 
-/// The bytes that are read, where they stand in the operand itself.
+/// The bytes that are read, where they lie in the operand itself.
 #[inline(always)]
 pub fn lent_at(operands: &[Operand], k: usize) -> Option<&[u8]>
     ensures { (h : Held) → IfSome result (λ bytes. bytes.now ≡ bytes_at h operands.now k) }

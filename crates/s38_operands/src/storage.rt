@@ -3,7 +3,7 @@ ghost use Rattle.std.specs.Prelude.{◌≡◌, ◌∷◌, [], All, IfOk, length}
 ghost use Rattle.std.specs.Option.{option_copied, unwrap_or};
 ghost use Rattle.s38_memory.specs.Cell.{IsCell};
 ghost use Rattle.s38_memory.specs.Tagged.{is_aligned, is_within};
-ghost use Rattle.s38_rules.specs.Cells.{bytes_there, cell_for, cells_there, first_pointer, pointer_there};
+ghost use Rattle.s38_rules.specs.state.Cells.{bytes_there, cell_for, cells_there, first_pointer, pointer_there};
 
 use s38_base::{Bytes, NoMemory, Pointer};
 use s38_memory::{Cell, Tagged};

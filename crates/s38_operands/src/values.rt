@@ -1,6 +1,6 @@
 //! Values for their receivers.
 ghost use Rattle.std.specs.Prelude.{◌≡◌, IfOk};
-ghost use Rattle.s38_rules.specs.Operands.{count_image, fitted};
+ghost use Rattle.s38_rules.specs.ask.Receivers.{count_image, fitted};
 
 use s38_base::{Bytes, NoMemory};
 use std::alloc::Global;

@@ -15,13 +15,13 @@ use Rattle.s38_base.specs.declared.page.Page.{Page}
 use Rattle.s38_vault.specs.Content.{Content}
 use Rattle.s38_vault.specs.Keys.{key_cmp}
 use Rattle.s38_vault.proofs.DirectoryLaws.{contains-keys_of}
-use Rattle.s38_blocks.specs.declared.layout.Layout.{Layout}
-use Rattle.s38_blocks.specs.Coding.{page_in}
-use Rattle.s38_blocks.specs.Store.{is_home}
-use Rattle.s38_blocks.proofs.CommitLemmas.{home_below}
+use Rattle.s38_redo_log.specs.declared.layout.Layout.{Layout}
+use Rattle.s38_redo_log.specs.Coding.{page_in}
+use Rattle.s38_redo_log.specs.Store.{is_home}
+use Rattle.s38_redo_log.proofs.CommitLemmas.{home_below}
 use Rattle.s38_pages.specs.Formats.{no_homes}
 use Rattle.s38_pages.specs.Index.{Homes, Indexed, first_marks, marked, page_at, unmarked}
-use Rattle.s38_pages.specs.Scan.{Keeps, Scanned}
+use Rattle.s38_pages.specs.Scan.{IsScannedTo, Scanned}
 use Rattle.s38_pages.proofs.Contents.{none_some}
 use Rattle.s38_pages.proofs.Marking.{set_other, set_there, unmarked_set}
 use Rattle.s38_pages.proofs.Scanning.{hole_is, home_is}
@@ -76,7 +76,7 @@ module _ (lay : Layout) (order : lay.first ≤ lay.size) where
   abbrev inside : Bool
   inside = nat_le lay.first lay.hole && nat_lt lay.hole lay.size
 
-  keeps_by : (b : Bool) → inside ≡ b → Keeps lay empty (cond b (slice_set homes_free lay.hole true) homes_free) lay.first
+  keeps_by : (b : Bool) → inside ≡ b → IsScannedTo lay empty (cond b (slice_set homes_free lay.hole true) homes_free) lay.first
   keeps_by b is = record {
     index = record {
       home = λ k h at. absurd (nothing k h at);
@@ -126,7 +126,7 @@ module _ (lay : Layout) (order : lay.first ≤ lay.size) where
           let hole : ◌≡◌ {A = ℕ} (cond inside 1 0) 0 = ap (λ v. cond {A = ℕ} v 1 0) is in
           omega (arith, none, hole, base_count)
 
-  pub keeps_first : Keeps lay empty (first_marks lay) lay.first
+  pub keeps_first : IsScannedTo lay empty (first_marks lay) lay.first
   keeps_first = keeps_by inside refl
 
 -- ---- contents

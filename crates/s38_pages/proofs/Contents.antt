@@ -12,11 +12,11 @@ use Rattle.s38_base.specs.declared.page.Key.{Key}
 use Rattle.s38_base.specs.declared.page.Page.{Page}
 use Rattle.s38_vault.specs.Content.{Content}
 use Rattle.s38_vault.specs.Keys.{key_cmp, key_cmp_total}
-use Rattle.s38_blocks.specs.declared.layout.Layout.{Layout}
-use Rattle.s38_blocks.specs.Coding.{key_in, page_in, is_used}
-use Rattle.s38_blocks.specs.Store.{is_home, Holds}
-use Rattle.s38_pages.specs.Index.{Index, with_home, page_at, Indexed}
-use Rattle.s38_blocks.proofs.LogLemmas.{put_here, put_apart}
+use Rattle.s38_redo_log.specs.declared.layout.Layout.{Layout}
+use Rattle.s38_redo_log.specs.Coding.{home_is_used, key_in, page_in}
+use Rattle.s38_redo_log.specs.Store.{HomesHold, is_home}
+use Rattle.s38_pages.specs.Index.{Index, Indexed, page_at, with_home}
+use Rattle.s38_redo_log.proofs.LogLemmas.{put_here, put_apart}
 
 -- ---- keys
 
@@ -62,7 +62,7 @@ none_some a e = cc
 
 -- ---- contents
 
-pub holds_indexed : (lay : Layout) (f : ℕ → Block) (ix : Index) (m : Content) → Indexed lay f ix m → Holds lay f m
+pub holds_indexed : (lay : Layout) (f : ℕ → Block) (ix : Index) (m : Content) → Indexed lay f ix m → HomesHold lay f m
 holds_indexed lay f ix m d = record {
   kept = λ i home used. d.pages (key_in (f i)) ∙ ap (page_at f) (d.whole i home used);
   found = λ k p e. by k p (ix k) refl (sym (d.pages k) ∙ e);
@@ -75,12 +75,12 @@ holds_indexed lay f ix m d = record {
     no_page : (a : Page) → ◌≡◌ {A = Option Page} None (Some a) → ⊥
     no_page a e = cc
 
-    by : (k : Key) (p : Page) (o : Option ℕ) → ix k ≡ o → page_at f o ≡ Some p → (i : ℕ) × (is_home lay i ≡ true) × (is_used (f i) ≡ true) × (key_in (f i) ≡ k) × (page_in (f i) ≡ p)
+    by : (k : Key) (p : Page) (o : Option ℕ) → ix k ≡ o → page_at f o ≡ Some p → (i : ℕ) × (is_home lay i ≡ true) × (home_is_used (f i) ≡ true) × (key_in (f i) ≡ k) × (page_in (f i) ≡ p)
     by k p None is e = absurd (no_page p e)
     by k p (Some h) is e = let s = d.sound k h is in (h, s.0, s.1, s.2, same_page (page_in (f h)) p e)
 
 module _ (lay : Layout) (f : ℕ → Block) (ix : Index) (m : Content) (d : Indexed lay f ix m) (k : Key) (h : ℕ) (b : Block) where
-  -- no other key stands at that home
+  -- that home holds no other key
   abbrev Alone : Type 0
   Alone = (q : Key) → ix q ≡ Some h → q ≡ k
 
@@ -90,20 +90,20 @@ module _ (lay : Layout) (f : ℕ → Block) (ix : Index) (m : Content) (d : Inde
   moved : (q : Key) (i : ℕ) → Alone → eq_by_cmp key_cmp q k ≡ false → ix q ≡ Some i → (i ≡ h → ⊥)
   moved q i alone other is e = true≢false (sym (key_itself k) ∙ ap (λ x. eq_by_cmp key_cmp x k) (sym (alone q (is ∙ ap (λ n. Some n) e))) ∙ other)
 
-  pub indexed_page : (p : Page) → is_home lay h ≡ true → Alone → is_used b ≡ true → key_in b ≡ k → page_in b ≡ p → ((h2 : ℕ) → ix k ≡ Some h2 → h2 ≡ h) → Indexed lay (put h b f) (with_home ix k (Some h)) (insert m k p)
+  pub indexed_page : (p : Page) → is_home lay h ≡ true → Alone → home_is_used b ≡ true → key_in b ≡ k → page_in b ≡ p → ((h2 : ℕ) → ix k ≡ Some h2 → h2 ≡ h) → Indexed lay (put h b f) (with_home ix k (Some h)) (insert m k p)
   indexed_page p home alone used key page mine = record {
     sound = λ q i is. ⊎_elim
         (λ e. let at : i ≡ h = some_same i h (sym is ∙ with_here ix k (Some h) q e) in
-        (ap (is_home lay) at ∙ home, ap is_used (put_here h b f i at) ∙ used, ap key_in (put_here h b f i at) ∙ key ∙ sym e))
+        (ap (is_home lay) at ∙ home, ap home_is_used (put_here h b f i at) ∙ used, ap key_in (put_here h b f i at) ∙ key ∙ sym e))
         (λ other. let was = sym (with_other ix k (Some h) q other) ∙ is in
         let there = put_apart h b f i (moved q i alone other was) in
         let s = d.sound q i was in
-        (s.0, ap is_used there ∙ s.1, ap key_in there ∙ s.2))
+        (s.0, ap home_is_used there ∙ s.1, ap key_in there ∙ s.2))
         (key_cases q k);
     whole = λ i hi ui. ⊎_elim
         (λ at. with_here ix k (Some h) (key_in (put h b f i)) (ap key_in (put_here h b f i at) ∙ key) ∙ ap (λ n. Some n) (sym at))
         (λ other. let there = put_apart h b f i other in
-        let was = d.whole i hi (sym (ap is_used there) ∙ ui) in
+        let was = d.whole i hi (sym (ap home_is_used there) ∙ ui) in
         with_other ix k (Some h) (key_in (put h b f i)) (apart_keys _ k (λ e. other (mine i (ap ix (sym e ∙ ap key_in there) ∙ was)))) ∙ ap ix (ap key_in there) ∙ was)
         (cases_eq i h);
     pages = λ q. get-insert key_cmp_total m k p q ∙ ⊎_elim
@@ -116,19 +116,19 @@ module _ (lay : Layout) (f : ℕ → Block) (ix : Index) (m : Content) (d : Inde
       same_pages q other None is = ap (page_at f) is ∙ sym (ap (page_at (put h b f)) is)
       same_pages q other (Some i) is = ap (page_at f) is ∙ ap (λ x. Some (page_in x)) (sym (put_apart h b f i (moved q i alone other is))) ∙ sym (ap (page_at (put h b f)) is)
 
-  pub indexed_gone : Alone → ix k ≡ Some h → is_used b ≡ false → Indexed lay (put h b f) (with_home ix k None) (remove m k)
+  pub indexed_gone : Alone → ix k ≡ Some h → home_is_used b ≡ false → Indexed lay (put h b f) (with_home ix k None) (remove m k)
   indexed_gone alone here unused = record {
     sound = λ q i is. ⊎_elim
         (λ e. absurd (none_some i (sym (with_here ix k None q e) ∙ is)))
         (λ other. let was = sym (with_other ix k None q other) ∙ is in
         let there = put_apart h b f i (moved q i alone other was) in
         let s = d.sound q i was in
-        (s.0, ap is_used there ∙ s.1, ap key_in there ∙ s.2))
+        (s.0, ap home_is_used there ∙ s.1, ap key_in there ∙ s.2))
         (key_cases q k);
     whole = λ i hi ui. ⊎_elim
-        (λ at. absurd (both_ways _ (ap is_used (put_here h b f i at) ∙ unused) ui))
+        (λ at. absurd (both_ways _ (ap home_is_used (put_here h b f i at) ∙ unused) ui))
         (λ other. let there = put_apart h b f i other in
-        let was = d.whole i hi (sym (ap is_used there) ∙ ui) in
+        let was = d.whole i hi (sym (ap home_is_used there) ∙ ui) in
         with_other ix k None (key_in (put h b f i)) (apart_keys _ k (λ e. other (some_same i h (sym was ∙ ap ix (sym (ap key_in there) ∙ e) ∙ here)))) ∙ ap ix (ap key_in there) ∙ was)
         (cases_eq i h);
     pages = λ q. get-remove key_cmp_total m k q ∙ ⊎_elim
@@ -154,8 +154,8 @@ indexed_none lay f ix m k d none = subst (Indexed lay f ix) (sym same) d
 -- homes alone count
 pub indexed_same : (lay : Layout) (f g : ℕ → Block) (ix : Index) (m : Content) → ((i : ℕ) → is_home lay i ≡ true → g i ≡ f i) → Indexed lay f ix m → Indexed lay g ix m
 indexed_same lay f g ix m same d = record {
-  sound = λ k h at. let s = d.sound k h at in (s.0, ap is_used (same h s.0) ∙ s.1, ap key_in (same h s.0) ∙ s.2);
-  whole = λ h home used. ap (λ b. ix (key_in b)) (same h home) ∙ d.whole h home (sym (ap is_used (same h home)) ∙ used);
+  sound = λ k h at. let s = d.sound k h at in (s.0, ap home_is_used (same h s.0) ∙ s.1, ap key_in (same h s.0) ∙ s.2);
+  whole = λ h home used. ap (λ b. ix (key_in b)) (same h home) ∙ d.whole h home (sym (ap home_is_used (same h home)) ∙ used);
   pages = λ k. d.pages k ∙ pages k (ix k) refl;
 }
   where

@@ -3,11 +3,11 @@ use Rattle.std.proofs.Common.{◌≡◌, ◌==◌, ◌||◌, ℕ, zero, suc, ◌
 use Rattle.std.proofs.lemmas.Bool.{cases_eq, both_ways, eq-eqb, ne_eqb}
 use Rattle.std.proofs.lemmas.List.{take_more}
 use Rattle.s38_disk.specs.declared.block.Block.{Block}
-use Rattle.s38_blocks.specs.declared.layout.Layout.{Layout}
-use Rattle.s38_blocks.specs.declared.layout.Slot.{Slot}
-use Rattle.s38_blocks.specs.Store.{AreHomes, entries_from, is_home, log_count, log_data, log_of, log_word, targets}
+use Rattle.s38_redo_log.specs.declared.layout.Layout.{Layout}
+use Rattle.s38_redo_log.specs.declared.layout.Slot.{Slot}
+use Rattle.s38_redo_log.specs.Store.{AreHomes, entries_from, is_home, log_count, log_data, log_of, log_word, targets}
 use Rattle.s38_pages.specs.Index.{marked}
-use Rattle.s38_pages.specs.Mounts.{entry_at}
+use Rattle.s38_pages.specs.Mounts.{log_entry_at}
 use Rattle.s38_pages.proofs.Marking.{set_other, set_there}
 
 entries_length : (f : ℕ → Block) (at j n : ℕ) → length (entries_from f at j n) ≡ n
@@ -29,7 +29,7 @@ entries_at f at j (suc n) (suc k) d le =
     let two : suc j + k ≡ j + suc k = omega arith in
     entries_at f at (suc j) n k d (omega arith) ∙ (λ i. record { home = log_word f (one i); block = f (at + two i) })
 
-pub log_at : (f : ℕ → Block) (k : ℕ) (d : Slot) → k < log_count f → get_or (log_of f) k d ≡ entry_at f k
+pub log_at : (f : ℕ → Block) (k : ℕ) (d : Slot) → k < log_count f → get_or (log_of f) k d ≡ log_entry_at f k
 unfolding log_of
 log_at f k d le =
     let one : 0 + k + 1 ≡ k + 1 = omega arith in
@@ -37,7 +37,7 @@ log_at f k d le =
     entries_at f (log_data (log_count f)) 0 (log_count f) k d le ∙ (λ i. record { home = log_word f (one i); block = f (log_data (log_count f) + two i) })
 
 -- one entry more
-pub log_more : (f : ℕ → Block) (k : ℕ) (slots : List Slot) (slot : Slot) → k < log_count f → slots ≡ take k (log_of f) → slot ≡ entry_at f k → take (k + 1) (log_of f) ≡ slots ++ slot ∷ []
+pub log_more : (f : ℕ → Block) (k : ℕ) (slots : List Slot) (slot : Slot) → k < log_count f → slots ≡ take k (log_of f) → slot ≡ log_entry_at f k → take (k + 1) (log_of f) ≡ slots ++ slot ∷ []
 log_more f k slots slot le so_far one =
     let d : Slot = slot in
     let size = log_length f in

@@ -3,15 +3,15 @@ use Rattle.std.proofs.Common.{◌≡◌, ◌==◌, ◌||◌, ◌&&◌, ℕ, zero
 use Rattle.std.proofs.Math.ListN.{length-set}
 use Rattle.std.proofs.lemmas.Bool.{true≢false, cases_Bool, cases_eq, both_ways, eq-eqb, ne_eqb}
 use Rattle.std.proofs.lemmas.List.{take_more}
-use Rattle.s38_blocks.specs.declared.layout.Layout.{Layout}
-use Rattle.s38_blocks.specs.declared.layout.Slot.{Slot}
-use Rattle.s38_blocks.specs.Store.{AreHomes, targets}
-use Rattle.s38_pages.specs.Index.{AreApart, count_freed, freed, frees, marked, unmarked}
+use Rattle.s38_redo_log.specs.declared.layout.Layout.{Layout}
+use Rattle.s38_redo_log.specs.declared.layout.Slot.{Slot}
+use Rattle.s38_redo_log.specs.Store.{AreHomes, targets}
+use Rattle.s38_pages.specs.Index.{HaveOwnHomes, count_freed, freed, frees, marked, unmarked}
 use Rattle.s38_pages.proofs.Marking.{set_other, set_there, unmarked_clear}
 use Rattle.s38_pages.proofs.Planning.{untargeted}
 use Rattle.s38_pages.proofs.Tallies.{freed-push}
 
-pub homes_apart : (lay : Layout) (es : List Slot) → AreHomes lay es → AreApart es
+pub homes_apart : (lay : Layout) (es : List Slot) → AreHomes lay es → HaveOwnHomes es
 homes_apart lay [] all = tt
 homes_apart lay (e ∷ es) all = (all.1, homes_apart lay es all.2)
 
@@ -34,7 +34,7 @@ freed-last (x ∷ es) e i = ap (λ b. ((i == x.home) && frees x) || b) (freed-la
     nested false b c = refl
 
 -- no earlier slot has the home
-apart_taken : (es : List Slot) (k : ℕ) (d : Slot) → AreApart es → k < length es → targets (take k es) (get_or es k d).home ≡ false
+apart_taken : (es : List Slot) (k : ℕ) (d : Slot) → HaveOwnHomes es → k < length es → targets (take k es) (get_or es k d).home ≡ false
 apart_taken [] k d all le = absurd (omega arith)
 apart_taken (e ∷ es) zero d all le = refl
 apart_taken (e ∷ es) (suc k) d all le =
@@ -111,7 +111,7 @@ given_push was used later es e g here apart free kept = by (frees e) refl
     })
 
 -- one slot more
-pub given_more : (was used later : List Bool) (es : List Slot) (k : ℕ) (d : Slot) → k < length es → AreApart es → ((h : ℕ) → targets es h ≡ true → marked was h ≡ true) → Given was used (take k es)
+pub given_more : (was used later : List Bool) (es : List Slot) (k : ℕ) (d : Slot) → k < length es → HaveOwnHomes es → ((h : ℕ) → targets es h ≡ true → marked was h ≡ true) → Given was used (take k es)
     → (frees (get_or es k d) ≡ true → later ≡ slice_set used (get_or es k d).home false) → (frees (get_or es k d) ≡ false → later ≡ used) → Given was later (take (k + 1) es)
 given_more was used later es k d le apart all g free kept =
     subst (Given was later) (sym (take_more es k d le))

@@ -10,15 +10,15 @@ use Rattle.s38_base.specs.declared.page.Page.{Page}
 use Rattle.s38_vault.specs.Directory.{NameObjects, keys_of}
 use Rattle.s38_vault.specs.Keys.{key_cmp, key_cmp_total}
 use Rattle.s38_vault.proofs.DirectoryLaws.{named_after}
-use Rattle.s38_blocks.specs.declared.layout.Layout.{Layout}
-use Rattle.s38_blocks.specs.Store.{is_home}
+use Rattle.s38_redo_log.specs.declared.layout.Layout.{Layout}
+use Rattle.s38_redo_log.specs.Store.{is_home}
 use Rattle.s38_pages.specs.Index.{Homes, marked, with_home}
-use Rattle.s38_pages.specs.Scan.{Keeps}
+use Rattle.s38_pages.specs.Scan.{IsScannedTo}
 use Rattle.s38_pages.proofs.Contents.{key_cases, some_same, with_here, with_other}
 use Rattle.s38_pages.proofs.Marking.{more_marked, set_other, set_there, unmarked_set}
 use Rattle.s38_pages.proofs.Tallies.{get_inserted, keys_of-insert}
 
-pub keeps_skip : (lay : Layout) (homes : Homes) (used : List Bool) (h : ℕ) → Keeps lay homes used h → Keeps lay homes used (h + 1)
+pub keeps_skip : (lay : Layout) (homes : Homes) (used : List Bool) (h : ℕ) → IsScannedTo lay homes used h → IsScannedTo lay homes used (h + 1)
 keeps_skip lay homes used h k = record {
   index = k.index;
   below = λ q i at. let lt = k.below q i at in omega arith;
@@ -29,8 +29,8 @@ keeps_skip lay homes used h k = record {
   parts = k.parts;
 }
 
-pub keeps_new : (lay : Layout) (homes : Homes) (used : List Bool) (h : ℕ) (key : Key) → Keeps lay homes used h → is_home lay h ≡ true → h < length used → get homes key ≡ None → 1 ≤ key.object
-    → Keeps lay (insert homes key h) (slice_set used h true) (h + 1)
+pub keeps_new : (lay : Layout) (homes : Homes) (used : List Bool) (h : ℕ) (key : Key) → IsScannedTo lay homes used h → is_home lay h ≡ true → h < length used → get homes key ≡ None → 1 ≤ key.object
+    → IsScannedTo lay (insert homes key h) (slice_set used h true) (h + 1)
 keeps_new lay homes used h key k home within none object = record {
   index = record {
     home = λ q i at. ⊎_elim (λ e. ap (is_home lay) (here q i e at) ∙ home) (λ other. k.index.home q i (there q i other at)) (key_cases q key);
@@ -70,5 +70,5 @@ keeps_new lay homes used h key k home within none object = record {
         true_false x = cc
 
 -- along equations
-pub keeps_moved : (lay : Layout) (m n : Homes) (used later : List Bool) (h : ℕ) → n ≡ m → later ≡ used → Keeps lay m used h → Keeps lay n later h
-keeps_moved lay m n used later h e u k = subst (λ x. Keeps lay x later h) (sym e) (subst (λ x. Keeps lay m x h) (sym u) k)
+pub keeps_moved : (lay : Layout) (m n : Homes) (used later : List Bool) (h : ℕ) → n ≡ m → later ≡ used → IsScannedTo lay m used h → IsScannedTo lay n later h
+keeps_moved lay m n used later h e u k = subst (λ x. IsScannedTo lay x later h) (sym e) (subst (λ x. IsScannedTo lay m x h) (sym u) k)

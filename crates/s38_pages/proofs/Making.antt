@@ -7,26 +7,26 @@ use Rattle.std.specs.Option.{option_map}
 use Rattle.s38_base.specs.declared.page.Change.{Change}
 use Rattle.s38_base.specs.declared.page.Key.{Key}
 use Rattle.s38_disk.specs.declared.block.Block.{Block}
-use Rattle.s38_disk.specs.Blocks.{State, after, put}
+use Rattle.s38_disk.specs.Blocks.{DiskState, after_calls, put}
 use Rattle.s38_disk.specs.Disk.{DiskView, IsAt}
-use Rattle.s38_disk.specs.Moves.{Ends, IsSettled, Moves, Near, SameBut}
+use Rattle.s38_disk.specs.Moves.{IsSynced, Moves, MovesBy, Near, SameBut}
 use Rattle.s38_disk.proofs.Runs.{joins, near_end, now_at, told_before, weaker}
 use Rattle.s38_vault.specs.Content.{Content}
 use Rattle.s38_vault.specs.Directory.{Keys, changed_keys, is_new, keys_of, new_keys}
 use Rattle.s38_vault.specs.Keys.{key_cmp, key_cmp_total}
 use Rattle.s38_vault.proofs.DirectoryLaws.{get-keys_of, keys_of-changed}
-use Rattle.s38_blocks.specs.declared.layout.Layout.{Layout}
-use Rattle.s38_blocks.specs.declared.layout.Slot.{Slot}
-use Rattle.s38_blocks.specs.Coding.{is_label, is_up}
-use Rattle.s38_blocks.specs.Store.{AreHomes, IsLayout, done, is_home, targets}
-use Rattle.s38_blocks.specs.Phases.{Rests, between}
-use Rattle.s38_blocks.proofs.Again.{below_homes, done_other, home_above}
-use Rattle.s38_blocks.proofs.CommitLemmas.{home_below}
-use Rattle.s38_blocks.proofs.Crash.{holds_same, image_same, rests_stands}
-use Rattle.s38_blocks.proofs.LogLemmas.{between_below, put_apart, put_here}
+use Rattle.s38_redo_log.specs.declared.layout.Layout.{Layout}
+use Rattle.s38_redo_log.specs.declared.layout.Slot.{Slot}
+use Rattle.s38_redo_log.specs.Coding.{is_store_label, is_up}
+use Rattle.s38_redo_log.specs.Store.{AreHomes, IsLayout, entries_written, is_home, targets}
+use Rattle.s38_redo_log.specs.Phases.{Idle, block_between}
+use Rattle.s38_redo_log.proofs.Again.{below_homes, done_other, home_above}
+use Rattle.s38_redo_log.proofs.CommitLemmas.{home_below}
+use Rattle.s38_redo_log.proofs.Crash.{holds_same, idle_recovers, image_same}
+use Rattle.s38_redo_log.proofs.LogLemmas.{between_below, put_apart, put_here}
 use Rattle.s38_pages.specs.Formats.{AreFree, Fills, IsBlank, IsMade, IsMaking, first_content, label_place, no_homes, no_pages}
 use Rattle.s38_pages.specs.Index.{Homes, Index, Indexed, Planned, page_at}
-use Rattle.s38_pages.specs.Vaults.{HoldsNow, Tells}
+use Rattle.s38_pages.specs.Vaults.{HoldsNow, IndexMatchesDisk}
 use Rattle.s38_pages.proofs.Contents.{holds_indexed, indexed_same, key_same, none_some}
 use Rattle.s38_pages.proofs.Finishing.{moves_from}
 
@@ -37,33 +37,33 @@ blank_more at b f blank old i low le = ⊎_elim
     (λ other. subst IsBlank (sym (put_apart at b f i other)) (old i low (let p : i < at = ⊎_elim (λ lt. lt) (λ ge. absurd (other (omega (arith, ge, le)))) (cases_lt i at) in p)))
     (cases_eq i at)
 
-pub blank_same : {s t : State} → t ≡ s → (i : ℕ) → IsBlank (s.now i) → IsBlank (t.now i)
-blank_same e i blank = subst (λ (u : State). IsBlank (u.now i)) (sym e) blank
+pub blank_same : {s t : DiskState} → t ≡ s → (i : ℕ) → IsBlank (s.now i) → IsBlank (t.now i)
+blank_same e i blank = subst (λ (u : DiskState). IsBlank (u.now i)) (sym e) blank
 
 module _ (lay : Layout) (is : IsLayout lay) (es : List Slot) (good : AreHomes lay es) where
   abbrev zone : ℕ → Bool
-  zone = between 1 lay.size
+  zone = block_between 1 lay.size
 
   -- nothing is pending, the label's place is as it was, and all else is blank
-  abbrev Blanked : State → State → Type 0
-  Blanked s t = IsSettled t × (t.now 0 ≡ s.now 0) × ((i : ℕ) → 1 ≤ i → i < lay.size → IsBlank (t.now i))
+  abbrev Blanked : DiskState → DiskState → Type 0
+  Blanked s t = IsSynced t × (t.now 0 ≡ s.now 0) × ((i : ℕ) → 1 ≤ i → i < lay.size → IsBlank (t.now i))
 
   -- the same, with the slots written
-  abbrev Filled : State → State → Type 0
-  Filled s t = IsSettled t × (t.now 0 ≡ s.now 0) × (is_up (t.now 1) ≡ false) × ((f : ℕ → Block) × (AreFree lay f × ((i : ℕ) → is_home lay i ≡ true → t.now i ≡ done es f i)))
+  abbrev Filled : DiskState → DiskState → Type 0
+  Filled s t = IsSynced t × (t.now 0 ≡ s.now 0) × (is_up (t.now 1) ≡ false) × ((f : ℕ → Block) × (AreFree lay f × ((i : ℕ) → is_home lay i ≡ true → t.now i ≡ entries_written es f i)))
 
   home_apart_0 : (i : ℕ) → is_home lay i ≡ true → label_place i ≡ false
   home_apart_0 i h = let above = home_above lay i h in ne_eqb i 0 (λ e. let p : ⊥ = omega (arith, above, e, is.room) in p)
 
-  pub blanked : {v w : DiskView} {p : ℕ} → Moves v w p (Near zone) → Ends v w (λ s t. IsSettled t × ((i : ℕ) → 1 ≤ i → i < lay.size → IsBlank (t.now i))) → Ends v w Blanked
+  pub blanked : {v w : DiskView} {p : ℕ} → Moves v w p (Near zone) → MovesBy v w (λ s t. IsSynced t × ((i : ℕ) → 1 ≤ i → i < lay.size → IsBlank (t.now i))) → MovesBy v w Blanked
   blanked x e s t at_s at_t =
       let near = near_end zone x s t at_s at_t in
       let known = e s t at_s at_t in
       (known.0, near.now 0 (between_below 1 lay.size 0 (omega arith)), known.1)
 
-  pub filled : {a b c : DiskView} {p q : ℕ} {R S : State → State → Type 0} → Moves a b p R → Ends a b Blanked → Moves b c q S → Ends b c (λ s t. IsSettled t × ((i : ℕ) → t.now i ≡ done es s.now i)) → Ends a c Filled
+  pub filled : {a b c : DiskView} {p q : ℕ} {R S : DiskState → DiskState → Type 0} → Moves a b p R → MovesBy a b Blanked → Moves b c q S → MovesBy b c (λ s t. IsSynced t × ((i : ℕ) → t.now i ≡ entries_written es s.now i)) → MovesBy a c Filled
   filled x e y f s t at_s at_t =
-      let mid = after s x.calls in
+      let mid = after_calls s x.calls in
       let at_mid = now_at x s at_s in
       let known = e s mid at_s at_mid in
       let step = f mid t at_mid at_t in
@@ -74,9 +74,9 @@ module _ (lay : Layout) (is : IsLayout lay) (es : List Slot) (good : AreHomes la
         (mid.now, (λ i h. (let above = home_above lay i h in known.2 i (omega (arith, above, is.room)) (home_below lay i h)).0, λ i h. step.1 i)),
       )
 
-  pub made : {a b c : DiskView} {p q : ℕ} {R S : State → State → Type 0} → Moves a b p R → Ends a b Filled → Moves b c q S → Ends b c (λ s t. IsSettled t × (is_label (t.now 0) ≡ true) × SameBut label_place s.now t.now) → Ends a c (λ s t. IsMade lay es t)
+  pub made : {a b c : DiskView} {p q : ℕ} {R S : DiskState → DiskState → Type 0} → Moves a b p R → MovesBy a b Filled → Moves b c q S → MovesBy b c (λ s t. IsSynced t × (is_store_label (t.now 0) ≡ true) × SameBut label_place s.now t.now) → MovesBy a c (λ s t. IsMade lay es t)
   made x e y f s t at_s at_t =
-      let mid = after s x.calls in
+      let mid = after_calls s x.calls in
       let at_mid = now_at x s at_s in
       let known = e s mid at_s at_mid in
       let step = f mid t at_mid at_t in
@@ -88,42 +88,42 @@ module _ (lay : Layout) (is : IsLayout lay) (es : List Slot) (good : AreHomes la
       }
 
   module _ (m : Content) (fills : Fills lay es m) where
-    abbrev R : State → State → Type 0
+    abbrev R : DiskState → DiskState → Type 0
     R = IsMaking lay m
 
-    pub zeros_making : {v w : DiskView} {p : ℕ} → ((s : State) → IsAt v.past s → is_label (s.now 0) ≡ false) → Moves v w p (Near zone) → Moves v w p R
+    pub zeros_making : {v w : DiskView} {p : ℕ} → ((s : DiskState) → IsAt v.past s → is_store_label (s.now 0) ≡ false) → Moves v w p (Near zone) → Moves v w p R
     zeros_making {p = p} fresh x = weaker p R x (omega arith) (λ s u at near. record {
-      each = λ settled g image. inl (ap is_label (image_same zone s u g settled near image 0 (between_below 1 lay.size 0 (omega arith))) ∙ fresh s at);
+      each = λ settled g image. inl (ap is_store_label (image_same zone s u g settled near image 0 (between_below 1 lay.size 0 (omega arith))) ∙ fresh s at);
     })
 
-    pub homes_making : {a b c : DiskView} {p q : ℕ} → ((s : State) → IsAt a.past s → is_label (s.now 0) ≡ false) → Moves a b p R → Ends a b Blanked → Moves b c q (Near (targets es)) → Moves a c (p + q) R
+    pub homes_making : {a b c : DiskView} {p q : ℕ} → ((s : DiskState) → IsAt a.past s → is_store_label (s.now 0) ≡ false) → Moves a b p R → MovesBy a b Blanked → Moves b c q (Near (targets es)) → Moves a c (p + q) R
     homes_making fresh x e y = joins R x y (λ s u at r. r) (λ s t u at_s at_t near. record {
       each = λ settled g image.
           let known = e s t at_s at_t in
-          inl (ap is_label (image_same (targets es) t u g known.0 near image 0 (below_homes lay es 0 good (omega (arith, is.room))) ∙ known.1) ∙ fresh s at_s);
+          inl (ap is_store_label (image_same (targets es) t u g known.0 near image 0 (below_homes lay es 0 good (omega (arith, is.room))) ∙ known.1) ∙ fresh s at_s);
     })
 
-    -- behind the label the store rests
-    rests_filled : (s t : State) (g : ℕ → Block) → Filled s t → SameBut label_place t.now g → is_label (g 0) ≡ true → Rests lay g m
+    -- after the label is written the log is idle
+    rests_filled : (s t : DiskState) (g : ℕ → Block) → Filled s t → SameBut label_place t.now g → is_store_label (g 0) ≡ true → Idle lay g m
     rests_filled s t g known same label = record {
       label = label;
       down = ap is_up (same 1 refl) ∙ known.2;
-      holds = holds_same lay is (done es known.3.0) g m (λ i h. same i (home_apart_0 i h) ∙ known.3.1.1 i h) (fills known.3.0 known.3.1.0);
+      holds = holds_same lay is (entries_written es known.3.0) g m (λ i h. same i (home_apart_0 i h) ∙ known.3.1.1 i h) (fills known.3.0 known.3.1.0);
     }
 
-    pub label_making : {a b c : DiskView} {p q : ℕ} → Moves a b p R → Ends a b Filled → Moves b c q (Near label_place) → Moves a c (p + q) R
+    pub label_making : {a b c : DiskView} {p q : ℕ} → Moves a b p R → MovesBy a b Filled → Moves b c q (Near label_place) → Moves a c (p + q) R
     label_making x e y = joins R x y (λ s u at r. r) (λ s t u at_s at_t near. record {
       each = λ settled g image.
           let known = e s t at_s at_t in
           let same = image_same label_place t u g known.0 near image in
-          ⊎_elim (λ label. inr (rests_stands lay is g m (rests_filled s t g known same label))) (λ none. inl none) (cases_Bool (is_label (g 0)));
+          ⊎_elim (λ label. inr (idle_recovers lay is g m (rests_filled s t g known same label))) (λ none. inl none) (cases_Bool (is_store_label (g 0)));
     })
 
-    pub made_rests : (t : State) → IsMade lay es t → Rests lay t.now m
+    pub made_rests : (t : DiskState) → IsMade lay es t → Idle lay t.now m
     made_rests t d = record {
       label = d.label;
       down = d.down;
-      holds = holds_same lay is (done es d.homes.0) t.now m (λ i h. d.homes.1.1 i h) (fills d.homes.0 d.homes.1.0);
+      holds = holds_same lay is (entries_written es d.homes.0) t.now m (λ i h. d.homes.1.1 i h) (fills d.homes.0 d.homes.1.0);
     }
 
 -- the moves of a store that is made, from where the disk was only read
@@ -131,8 +131,8 @@ pub making_moves : {v x w : DiskView} {n k : ℕ} (lay other : Layout) (m : Cont
 making_moves {v} {x} {w} {n} {k} lay other m same le size later past run =
     subst (λ (l : Layout). Moves v w (l.size + k + 3) (IsMaking l m)) same (weaker (lay.size + k + 3) (IsMaking lay m) (moves_from size later past run) (omega (arith, le)) (λ s u at r. r))
 
--- one run behind another, whatever they write
-pub both_runs : {a b c : DiskView} {m n : ℕ} {R S : State → State → Type 0} → Moves a b m R → Moves b c n S → Moves a c (m + n) (λ s u. Unit {0})
+-- one run after another, whatever they write
+pub both_runs : {a b c : DiskView} {m n : ℕ} {R S : DiskState → DiskState → Type 0} → Moves a b m R → Moves b c n S → Moves a c (m + n) (λ s u. Unit {0})
 both_runs x y = joins (λ s u. Unit {0}) x y (λ s u at r. tt) (λ s t u at_s at_t r. tt)
 
 -- ---- the plan of the first content
@@ -172,16 +172,16 @@ indexed_free lay f homes none free = record {
 
 module _ (lay : Layout) (is : IsLayout lay) (old : Homes) (none : old ≡ no_homes) (now : Index) (used : ℕ → Bool) (es : List Slot) (cs : List Change) (p : Planned lay (get old) now used es cs) where
   pub plan_fills : Fills lay es (first_content cs)
-  plan_fills f free = holds_indexed lay (done es f) now (first_content cs) (p.leads f no_pages (indexed_free lay f old none free))
+  plan_fills f free = holds_indexed lay (entries_written es f) now (first_content cs) (p.leads f no_pages (indexed_free lay f old none free))
 
-  pub made_tells : {v w : DiskView} {n : ℕ} {R : State → State → Type 0} → Moves v w n R → Ends v w (λ s t. IsMade lay es t) → Tells lay w now
+  pub made_tells : {v w : DiskView} {n : ℕ} {R : DiskState → DiskState → Type 0} → Moves v w n R → MovesBy v w (λ s t. IsMade lay es t) → IndexMatchesDisk lay w now
   made_tells x e t at_t =
       let was = told_before x t at_t in
       let d = e was.0 t was.1 at_t in
-      (d.settled, (first_content cs, made_rests lay is es p.homes (first_content cs) plan_fills t d, indexed_same lay (done es d.homes.0) t.now now (first_content cs) d.homes.1.1 (p.leads d.homes.0 no_pages (indexed_free lay d.homes.0 old none d.homes.1.0))))
+      (d.settled, (first_content cs, made_rests lay is es p.homes (first_content cs) plan_fills t d, indexed_same lay (entries_written es d.homes.0) t.now now (first_content cs) d.homes.1.1 (p.leads d.homes.0 no_pages (indexed_free lay d.homes.0 old none d.homes.1.0))))
 
-  pub made_content : {v w : DiskView} {n : ℕ} {R : State → State → Type 0} → Moves v w n R → Ends v w (λ s t. IsMade lay es t) → (s : State) → IsAt v.past s → HoldsNow lay w true (first_content cs)
+  pub made_content : {v w : DiskView} {n : ℕ} {R : DiskState → DiskState → Type 0} → Moves v w n R → MovesBy v w (λ s t. IsMade lay es t) → (s : DiskState) → IsAt v.past s → HoldsNow lay w true (first_content cs)
   made_content x e s at_s =
-      let t = after s x.calls in
+      let t = after_calls s x.calls in
       let at_t = now_at x s at_s in
       (refl, (t, at_t, made_rests lay is es p.homes (first_content cs) plan_fills t (e s t at_s at_t)))

@@ -36,7 +36,3 @@ set_other used h i b other = get_or-set_other used h i b false other
 -- a mark more
 pub more_marked : (used : List Bool) (h i : ℕ) → h < length used → marked used i ≡ true → marked (slice_set used h true) i ≡ true
 more_marked used h i le is = ⊎_elim (λ e. ap (marked (slice_set used h true)) e ∙ set_there used h true le) (λ other. set_other used h i true other ∙ is) (cases_eq i h)
-
--- below a home that is cleared nothing changes
-pub below_cleared : (used : List Bool) (low h i : ℕ) → ((j : ℕ) → j < low → marked used j ≡ true) → i < low → i < h → marked (slice_set used h false) i ≡ true
-below_cleared used low h i below lt le = set_other used h i false (λ e. omega arith) ∙ below i lt

@@ -1,4 +1,4 @@
--- One change more is planned: its slot, the index behind it, the content behind it.
+-- One change more is planned: its slot, the index after it, the content after it.
 use Rattle.std.proofs.Common.{◌≡◌, ◌⊎◌, ◌==◌, ◌||◌, ◌&&◌, ℕ, ◌+◌, Bool, true, false, not, List, [], ◌∷◌, ◌++◌, length, Some, None, refl, sym, ◌∙◌, ap, subst, arith, inl, inr, ⊎_elim, length-append}
 use Rattle.std.proofs.lemmas.Bool.{true≢false, eqb-true, eq-eqb, ne_eqb, cases_Bool, both_ways}
 use Rattle.std.specs.Ordering.{eq_by_cmp}
@@ -8,12 +8,12 @@ use Rattle.s38_base.specs.declared.page.Page.{Page}
 use Rattle.s38_base.specs.declared.page.Change.{Change}
 use Rattle.s38_vault.specs.Content.{Content, with_value, changed}
 use Rattle.s38_vault.specs.Keys.{key_cmp}
-use Rattle.s38_blocks.specs.declared.layout.Layout.{Layout}
-use Rattle.s38_blocks.specs.declared.layout.Slot.{Slot}
-use Rattle.s38_blocks.specs.Coding.{key_in, page_in, is_used}
-use Rattle.s38_blocks.specs.Store.{is_home, done, targets, AreHomes}
-use Rattle.s38_pages.specs.Index.{Index, with_home, IsIndex, Indexed, HasKey, Planned, frees, freed}
-use Rattle.s38_blocks.proofs.Writes.{done-push}
+use Rattle.s38_redo_log.specs.declared.layout.Layout.{Layout}
+use Rattle.s38_redo_log.specs.declared.layout.Slot.{Slot}
+use Rattle.s38_redo_log.specs.Coding.{home_is_used, key_in, page_in}
+use Rattle.s38_redo_log.specs.Store.{AreHomes, entries_written, is_home, targets}
+use Rattle.s38_pages.specs.Index.{HasKey, Index, Indexed, IsHomeIndex, Planned, freed, frees, with_home}
+use Rattle.s38_redo_log.proofs.Writes.{done-push}
 use Rattle.s38_pages.proofs.Contents.{key_cases, key_itself, with_here, with_other, some_same, none_some, indexed_page, indexed_gone, indexed_none}
 
 changed-push : (cs : List Change) (c : Change) (m : Content) → changed m (cs ++ c ∷ []) ≡ with_value (changed m cs) c.key c.page
@@ -55,7 +55,7 @@ homes-push lay (x ∷ es) e all none home =
     (all.0, not_target es e x.home all.1 (λ same. true≢false (sym (eq-eqb e.home x.home (sym same)) ∙ parts.0)), homes-push lay es e all.2 parts.1 home)
 
 -- a slot with a page frees no home
-freed-kept : (es : List Slot) (e : Slot) (i : ℕ) → is_used e.block ≡ true → freed (es ++ e ∷ []) i ≡ freed es i
+freed-kept : (es : List Slot) (e : Slot) (i : ℕ) → home_is_used e.block ≡ true → freed (es ++ e ∷ []) i ≡ freed es i
 freed-kept [] e i used = ap (λ b. ((i == e.home) && not b) || false) used ∙ never (i == e.home)
   where
     never : (b : Bool) → ((b && false) || false) ≡ false
@@ -85,7 +85,7 @@ pub longer : {A : Type 0} (xs : List A) (x : A) → length (xs ++ x ∷ []) ≡ 
 longer xs x = length-append xs (x ∷ [])
 
 module _ (lay : Layout) (old : Index) where
-  pub planned_start : (used : ℕ → Bool) → IsIndex lay old used → Planned lay old old used [] []
+  pub planned_start : (used : ℕ → Bool) → IsHomeIndex lay old used → Planned lay old old used [] []
   planned_start used is = record {
     index = is;
     homes = tt;
@@ -100,7 +100,7 @@ module _ (lay : Layout) (old : Index) where
     page_planned : (page : Page) (slot : Slot) (later : ℕ → Bool) → c.page ≡ Some page → is_home lay slot.home ≡ true → targets es slot.home ≡ false
         → ((q : Key) → now q ≡ Some slot.home → q ≡ c.key) → ((i : ℕ) → now c.key ≡ Some i → i ≡ slot.home)
         → later slot.home ≡ true → ((i : ℕ) → used i ≡ true → later i ≡ true)
-        → is_used slot.block ≡ true → key_in slot.block ≡ c.key → page_in slot.block ≡ page
+        → home_is_used slot.block ≡ true → key_in slot.block ≡ c.key → page_in slot.block ≡ page
         → Planned lay old (with_home now c.key (Some slot.home)) later (es ++ slot ∷ []) (cs ++ c ∷ [])
     page_planned page slot later is home free alone own marked more is_in key content = record {
       index = record {
@@ -113,9 +113,9 @@ module _ (lay : Layout) (old : Index) where
           (λ was. let m = p.mine h was in (more h m.0, λ q at. ⊎_elim (λ e. subst (HasKey (cs ++ c ∷ [])) (sym e) (has_last cs c)) (λ other. has_more cs c q (m.1 q (sym (with_other now c.key (Some slot.home) q other) ∙ at))) (key_cases q c.key)))
           (λ e. (ap later e ∙ marked, λ q at. ⊎_elim (λ is_k. subst (HasKey (cs ++ c ∷ [])) (sym is_k) (has_last cs c)) (λ other. subst (HasKey (cs ++ c ∷ [])) (sym (alone q (sym (with_other now c.key (Some slot.home) q other) ∙ at ∙ ap (λ n. Some n) e))) (has_last cs c)) (key_cases q c.key)))
           (targets-push es slot h hit);
-      leads = λ f m d. subst (Indexed lay (done (es ++ slot ∷ []) f) (with_home now c.key (Some slot.home))) (sym (changed-push cs c m ∙ ap (λ x. with_value (changed m cs) c.key x) is))
+      leads = λ f m d. subst (Indexed lay (entries_written (es ++ slot ∷ []) f) (with_home now c.key (Some slot.home))) (sym (changed-push cs c m ∙ ap (λ x. with_value (changed m cs) c.key x) is))
           (subst (λ g. Indexed lay g (with_home now c.key (Some slot.home)) (with_value (changed m cs) c.key (Some page))) (sym (done-push es slot f))
-          (indexed_page lay (done es f) now (changed m cs) (p.leads f m d) c.key slot.home slot.block page home alone is_in key content own));
+          (indexed_page lay (entries_written es f) now (changed m cs) (p.leads f m d) c.key slot.home slot.block page home alone is_in key content own));
       live = λ q h at. ⊎_elim
           (λ e. freed-kept es slot h is_in ∙ untargeted es h (ap (targets es) (some_same h slot.home (sym at ∙ with_here now c.key (Some slot.home) q e)) ∙ free))
           (λ other. freed-kept es slot h is_in ∙ p.live q h (sym (with_other now c.key (Some slot.home) q other) ∙ at))
@@ -139,7 +139,7 @@ module _ (lay : Layout) (old : Index) where
     -- over the home that it has
     pub planned_over : (page : Page) (slot : Slot) (later : ℕ → Bool) → c.page ≡ Some page → now c.key ≡ Some slot.home
         → later slot.home ≡ true → ((i : ℕ) → used i ≡ true → later i ≡ true)
-        → is_used slot.block ≡ true → key_in slot.block ≡ c.key → page_in slot.block ≡ page
+        → home_is_used slot.block ≡ true → key_in slot.block ≡ c.key → page_in slot.block ≡ page
         → Planned lay old (with_home now c.key (Some slot.home)) later (es ++ slot ∷ []) (cs ++ c ∷ [])
     planned_over page slot later is at marked more is_in key content = page_planned page slot later is (p.index.home c.key slot.home at) (fresh_there slot.home at)
         (λ q at_q. p.index.apart q c.key slot.home at_q at) (λ i at_i. some_same i slot.home (sym at_i ∙ at)) marked more is_in key content
@@ -147,13 +147,13 @@ module _ (lay : Layout) (old : Index) where
     -- at a free home
     pub planned_new : (page : Page) (slot : Slot) (later : ℕ → Bool) → c.page ≡ Some page → now c.key ≡ None → is_home lay slot.home ≡ true → used slot.home ≡ false
         → later slot.home ≡ true → ((i : ℕ) → used i ≡ true → later i ≡ true)
-        → is_used slot.block ≡ true → key_in slot.block ≡ c.key → page_in slot.block ≡ page
+        → home_is_used slot.block ≡ true → key_in slot.block ≡ c.key → page_in slot.block ≡ page
         → Planned lay old (with_home now c.key (Some slot.home)) later (es ++ slot ∷ []) (cs ++ c ∷ [])
     planned_new page slot later is none home free marked more is_in key content = page_planned page slot later is home (fresh_free slot.home free)
         (λ q at_q. absurd (both_ways _ free (p.index.used_there q slot.home at_q))) (λ i at_i. absurd (none_some i (sym none ∙ at_i))) marked more is_in key content
 
     -- a page is taken away
-    pub planned_gone : (slot : Slot) → c.page ≡ None → now c.key ≡ Some slot.home → is_used slot.block ≡ false
+    pub planned_gone : (slot : Slot) → c.page ≡ None → now c.key ≡ Some slot.home → home_is_used slot.block ≡ false
         → Planned lay old (with_home now c.key None) used (es ++ slot ∷ []) (cs ++ c ∷ [])
     planned_gone slot is at unused = record {
       index = record {
@@ -166,9 +166,9 @@ module _ (lay : Layout) (old : Index) where
           (λ was. let m = p.mine h was in (m.0, λ q at_q. by (λ was_q. has_more cs c q (m.1 q was_q)) (key_cases q c.key) at_q))
           (λ e. (ap used e ∙ p.index.used_there c.key slot.home at, λ q at_q. by (λ was_q. subst (HasKey (cs ++ c ∷ [])) (p.index.apart c.key q slot.home at (was_q ∙ ap (λ n. Some n) e)) (has_last cs c)) (key_cases q c.key) at_q))
           (targets-push es slot h hit);
-      leads = λ f m d. subst (Indexed lay (done (es ++ slot ∷ []) f) (with_home now c.key None)) (sym (changed-push cs c m ∙ ap (λ x. with_value (changed m cs) c.key x) is))
+      leads = λ f m d. subst (Indexed lay (entries_written (es ++ slot ∷ []) f) (with_home now c.key None)) (sym (changed-push cs c m ∙ ap (λ x. with_value (changed m cs) c.key x) is))
           (subst (λ g. Indexed lay g (with_home now c.key None) (with_value (changed m cs) c.key None)) (sym (done-push es slot f))
-          (indexed_gone lay (done es f) now (changed m cs) (p.leads f m d) c.key slot.home slot.block (λ q at_q. p.index.apart q c.key slot.home at_q at) at unused));
+          (indexed_gone lay (entries_written es f) now (changed m cs) (p.leads f m d) c.key slot.home slot.block (λ q at_q. p.index.apart q c.key slot.home at_q at) at unused));
       live = λ q h at_q. live q h (key_cases q c.key) at_q;
       few = omega (arith, p.few, longer es slot, longer cs c);
     }
@@ -189,12 +189,12 @@ module _ (lay : Layout) (old : Index) where
       index = p.index;
       homes = p.homes;
       mine = λ h hit. ((p.mine h hit).0, λ q at. has_more cs c q ((p.mine h hit).1 q at));
-      leads = λ f m d. subst (Indexed lay (done es f) now) (sym (changed-push cs c m ∙ ap (λ x. with_value (changed m cs) c.key x) is)) (indexed_none lay (done es f) now (changed m cs) c.key (p.leads f m d) none);
+      leads = λ f m d. subst (Indexed lay (entries_written es f) now) (sym (changed-push cs c m ∙ ap (λ x. with_value (changed m cs) c.key x) is)) (indexed_none lay (entries_written es f) now (changed m cs) c.key (p.leads f m d) none);
       live = p.live;
       few = omega (arith, p.few, longer cs c);
     }
 
 -- ---- blocks
 
-pub used_block : (b : Block) (k : Key) → key_in b ≡ k → (k.object ≡ 0 → ⊥) → is_used b ≡ true
+pub used_block : (b : Block) (k : Key) → key_in b ≡ k → (k.object ≡ 0 → ⊥) → home_is_used b ≡ true
 used_block b k e object = ap (λ (x : Key). not (x.object == 0)) e ∙ ap not (ne_eqb k.object 0 object)

@@ -15,8 +15,8 @@ use Rattle.s38_vault.specs.Content.{AreRising}
 use Rattle.s38_vault.specs.Directory.{Keys, changed_keys, gone_keys, is_gone, is_new, keys_of, new_keys, with_key}
 use Rattle.s38_vault.specs.Keys.{IsBefore, key_cmp, key_cmp_total}
 use Rattle.s38_vault.proofs.DirectoryLaws.{contains-keys_of, contains-other, get-keys_of, rising_all, rising_rest}
-use Rattle.s38_blocks.specs.declared.layout.Slot.{Slot}
-use Rattle.s38_pages.specs.Index.{Homes, HasKey, Tallied, count_freed, frees, marked, unmarked, with_home}
+use Rattle.s38_redo_log.specs.declared.layout.Slot.{Slot}
+use Rattle.s38_pages.specs.Index.{HasKey, Homes, Tallied, count_freed, frees, marked, unmarked, with_home}
 use Rattle.s38_pages.proofs.Contents.{apart_keys, key_cases, key_itself, key_same}
 use Rattle.s38_pages.proofs.Marking.{unmarked_set}
 
@@ -72,7 +72,7 @@ all_at P (c ∷ cs) (suc k) d all le = all_at P cs k d all.1 (omega arith)
 not_before : (q : Key) → IsBefore q q → ⊥
 not_before q e = true≢false (sym (key_itself q) ∙ ap is_eq e)
 
--- no key stands twice
+-- no key occurs twice
 pub rising_apart : (cs : List Change) → AreRising cs → (k : ℕ) (d : Change) → k < length cs → HasKey (take k cs) (get_or cs k d).key → ⊥
 rising_apart [] r k d le has = absurd (omega arith)
 rising_apart (c ∷ cs) r zero d le has = has

@@ -6,9 +6,9 @@ use Rattle.s38_disk.specs.Disk.{DiskView}
 use Rattle.s38_disk.specs.Moves.{Moves}
 use Rattle.s38_disk.proofs.Runs.{joins, same_past, stays}
 use Rattle.s38_vault.specs.Vaults.{VaultShape, VaultView}
-use Rattle.s38_blocks.specs.declared.layout.Layout.{Layout}
+use Rattle.s38_redo_log.specs.declared.layout.Layout.{Layout}
 use Rattle.s38_pages.specs.Stored.{store_code}
-use Rattle.s38_pages.specs.Vaults.{IsWhole, PageStore, page_view}
+use Rattle.s38_pages.specs.Vaults.{AlwaysMounts, PageStore, page_view}
 use Rattle.s38_pages.specs.Watched.{IsWatched, WatchedStore, paired, store_number, tree_number, watched_view}
 
 -- ---- one number for two
@@ -55,14 +55,14 @@ same_first w x e = same_store x.first w.first (ap (λ (s : VaultShape). s.start)
 -- ---- the watch goes on
 
 pub begins : (v : PageStore) → IsWatched v v
-begins v = record { start = refl; layout = refl; most = 0; moves = stays v.disk (IsWhole v.layout) }
+begins v = record { start = refl; layout = refl; most = 0; moves = stays v.disk (AlwaysMounts v.layout) }
 
-pub goes_on : {first v w : PageStore} {most : ℕ} → IsWatched first v → w.start ≡ v.start → w.layout ≡ v.layout → Moves v.disk w.disk most (IsWhole v.layout) → IsWatched first w
+pub goes_on : {first v w : PageStore} {most : ℕ} → IsWatched first v → w.start ≡ v.start → w.layout ≡ v.layout → Moves v.disk w.disk most (AlwaysMounts v.layout) → IsWatched first w
 goes_on {first} {v} {w} {most} x start layout moves = record {
   start = start ∙ x.start;
   layout = layout ∙ x.layout;
   most = x.most + most;
-  moves = joins (IsWhole first.layout) x.moves (subst (λ (l : Layout). Moves v.disk w.disk most (IsWhole l)) x.layout moves) (λ s u is h. record { each = h.each }) (λ s t u is at h. record { each = h.each });
+  moves = joins (AlwaysMounts first.layout) x.moves (subst (λ (l : Layout). Moves v.disk w.disk most (AlwaysMounts l)) x.layout moves) (λ s u is h. record { each = h.each }) (λ s t u is at h. record { each = h.each });
 }
 
 pub start_of : (v w : PageStore) → (page_view w).shape ≡ (page_view v).shape → w.start ≡ v.start
@@ -72,5 +72,5 @@ pub start_still : (v w : PageStore) {new : VaultView} → page_view w ≡ new �
 start_still v w is e = ap (λ (x : VaultView). x.shape.start) is ∙ ap (λ (s : VaultShape). s.start) e
 
 -- a vault that was only read; what contracts see of it is what it keeps
-pub read_only : {v w : PageStore} {x : DiskView} → v ≡ w → x.size ≡ v.disk.size → v.disk.faults ≤ x.faults → x.past ≡ v.disk.past → Moves w.disk x 0 (IsWhole w.layout)
-read_only {v} {w} {x} same size later past = subst (λ (y : PageStore). Moves y.disk x 0 (IsWhole y.layout)) same (same_past v.disk x (IsWhole v.layout) size later past)
+pub read_only : {v w : PageStore} {x : DiskView} → v ≡ w → x.size ≡ v.disk.size → v.disk.faults ≤ x.faults → x.past ≡ v.disk.past → Moves w.disk x 0 (AlwaysMounts w.layout)
+read_only {v} {w} {x} same size later past = subst (λ (y : PageStore). Moves y.disk x 0 (AlwaysMounts y.layout)) same (same_past v.disk x (AlwaysMounts v.layout) size later past)

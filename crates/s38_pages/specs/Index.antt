@@ -1,4 +1,4 @@
--- The index in memory: at which home each key stands, and which homes are used.
+-- The index in memory: which home holds each key, and which homes are used.
 use Rattle.std.specs.Prelude.{◌≡◌, ◌≤◌, ◌<◌, ◌+◌, ◌-◌, ◌==◌, ◌&&◌, ◌||◌, ◌⊎◌, not, ℕ, suc, nat_le, nat_lt, Bool, true, false, cond, List, [], ◌∷◌, length, get_or, replicate, slice_set, ◌++◌, Option, Some, None}
 use Rattle.std.specs.FinMap.{FinMap, get}
 use Rattle.std.specs.Ordering.{eq_by_cmp}
@@ -9,12 +9,12 @@ use Rattle.s38_base.specs.declared.page.Change.{Change}
 use Rattle.s38_vault.specs.Content.{Content, changed}
 use Rattle.s38_vault.specs.Directory.{changed_keys, gone_keys, keys_of, new_keys}
 use Rattle.s38_vault.specs.Keys.{key_cmp}
-use Rattle.s38_blocks.specs.declared.layout.Layout.{Layout}
-use Rattle.s38_blocks.specs.declared.layout.Slot.{Slot}
-use Rattle.s38_blocks.specs.Coding.{key_in, page_in, is_used}
-use Rattle.s38_blocks.specs.Store.{is_home, done, targets, AreHomes}
+use Rattle.s38_redo_log.specs.declared.layout.Layout.{Layout}
+use Rattle.s38_redo_log.specs.declared.layout.Slot.{Slot}
+use Rattle.s38_redo_log.specs.Coding.{home_is_used, key_in, page_in}
+use Rattle.s38_redo_log.specs.Store.{AreHomes, entries_written, is_home, targets}
 
--- at which home each key stands
+-- which home holds each key
 abbrev pub Homes : Type 0
 Homes = FinMap key_cmp ℕ
 
@@ -50,19 +50,19 @@ first_marks lay =
     cond (nat_le lay.first lay.hole && nat_lt lay.hole lay.size) (slice_set homes lay.hole true) homes
 
 -- how many homes there are
-abbrev pub parts_of : Layout → ℕ
-parts_of lay = lay.size - lay.first - cond (nat_le lay.first lay.hole && nat_lt lay.hole lay.size) 1 0
+abbrev pub home_count : Layout → ℕ
+home_count lay = lay.size - lay.first - cond (nat_le lay.first lay.hole && nat_lt lay.hole lay.size) 1 0
 
 -- each key has a home of its own, which is marked as used
-pub record IsIndex (lay : Layout) (ix : Index) (used : ℕ → Bool) : Type 0 where
+pub record IsHomeIndex (lay : Layout) (ix : Index) (used : ℕ → Bool) : Type 0 where
   pub home : (k : Key) (h : ℕ) → ix k ≡ Some h → is_home lay h ≡ true
   pub used_there : (k : Key) (h : ℕ) → ix k ≡ Some h → used h ≡ true
   pub apart : (k q : Key) (h : ℕ) → ix k ≡ Some h → ix q ≡ Some h → k ≡ q
 
 -- the index is that of these blocks, which hold the content
 pub record Indexed (lay : Layout) (f : ℕ → Block) (ix : Index) (m : Content) : Type 0 where
-  pub sound : (k : Key) (h : ℕ) → ix k ≡ Some h → (is_home lay h ≡ true) × (is_used (f h) ≡ true) × (key_in (f h) ≡ k)
-  pub whole : (h : ℕ) → is_home lay h ≡ true → is_used (f h) ≡ true → ix (key_in (f h)) ≡ Some h
+  pub sound : (k : Key) (h : ℕ) → ix k ≡ Some h → (is_home lay h ≡ true) × (home_is_used (f h) ≡ true) × (key_in (f h) ≡ k)
+  pub whole : (h : ℕ) → is_home lay h ≡ true → home_is_used (f h) ≡ true → ix (key_in (f h)) ≡ Some h
   pub pages : (k : Key) → get m k ≡ page_at f (ix k)
 
 -- ---- the plan of a put
@@ -73,7 +73,7 @@ HasKey (c ∷ cs) q = (q ≡ c.key) ⊎ HasKey cs q
 
 -- a slot that frees its home
 abbrev pub frees : Slot → Bool
-frees slot = not (is_used slot.block)
+frees slot = not (home_is_used slot.block)
 
 -- a home that the slots free
 abbrev pub freed : List Slot → ℕ → Bool
@@ -86,20 +86,20 @@ count_freed [] = 0
 count_freed (e ∷ es) = cond (frees e) 1 0 + count_freed es
 
 -- no two slots have one home
-abbrev pub AreApart : List Slot → Type 0
-AreApart [] = Unit {0}
-AreApart (e ∷ es) = (targets es e.home ≡ false) × AreApart es
+abbrev pub HaveOwnHomes : List Slot → Type 0
+HaveOwnHomes [] = Unit {0}
+HaveOwnHomes (e ∷ es) = (targets es e.home ≡ false) × HaveOwnHomes es
 
--- Behind these changes: their slots, and the index as it then is.
+-- After these changes: their slots, and the index as it then is.
 pub record Planned (lay : Layout) (old now : Index) (used : ℕ → Bool) (es : List Slot) (cs : List Change) : Type 0 where
-  pub index : IsIndex lay now used
+  pub index : IsHomeIndex lay now used
   pub homes : AreHomes lay es
   pub mine : (h : ℕ) → targets es h ≡ true → (used h ≡ true) × ((q : Key) → now q ≡ Some h → HasKey cs q)
   pub live : (q : Key) (h : ℕ) → now q ≡ Some h → freed es h ≡ false
-  pub leads : (f : ℕ → Block) (m : Content) → Indexed lay f old m → Indexed lay (done es f) now (changed m cs)
+  pub leads : (f : ℕ → Block) (m : Content) → Indexed lay f old m → Indexed lay (entries_written es f) now (changed m cs)
   pub few : length es ≤ length cs
 
--- the keys, the marks and the freed homes behind these changes
+-- the keys, the marks and the freed homes after these changes
 pub record Tallied (old now : Homes) (was used : List Bool) (es : List Slot) (cs : List Change) : Type 0 where
   pub keys : keys_of now ≡ changed_keys (keys_of old) cs
   pub marks : unmarked used + new_keys (keys_of old) cs ≡ unmarked was

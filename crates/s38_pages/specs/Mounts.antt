@@ -2,14 +2,14 @@
 use Rattle.std.specs.Prelude.{◌≡◌, ◌⊎◌, ◌+◌, ◌/◌, ◌<◌, ◌≤◌, ℕ, true, false, take}
 use Rattle.std.specs.Prelude.{min}
 use Rattle.s38_disk.specs.declared.block.Block.{Block}
-use Rattle.s38_disk.specs.Blocks.{State, IsImage}
-use Rattle.s38_disk.specs.Moves.{IsSettled}
+use Rattle.s38_disk.specs.Blocks.{DiskState, IsCrashImage}
+use Rattle.s38_disk.specs.Moves.{IsSynced}
 use Rattle.s38_vault.specs.Content.{Content}
-use Rattle.s38_blocks.specs.declared.layout.Layout.{Layout}
-use Rattle.s38_blocks.specs.Coding.{is_label, is_up}
-use Rattle.s38_blocks.specs.Store.{AreHomes, IsLog, is_home, Stands, log_count, log_data, log_of, log_word, redone}
-use Rattle.s38_blocks.specs.declared.layout.Slot.{Slot}
-use Rattle.s38_blocks.specs.Phases.{Rests}
+use Rattle.s38_redo_log.specs.declared.layout.Layout.{Layout}
+use Rattle.s38_redo_log.specs.Coding.{is_store_label, is_up}
+use Rattle.s38_redo_log.specs.Store.{AreHomes, IsLog, RecoversTo, is_home, log_count, log_data, log_of, log_replayed, log_word}
+use Rattle.s38_redo_log.specs.declared.layout.Slot.{Slot}
+use Rattle.s38_redo_log.specs.Phases.{Idle}
 use Rattle.s38_pages.specs.Scan.{AreTwins}
 use Rattle.s38_pages.specs.declared.fault.StoreFault.{StoreFault}
 use Rattle.s38_pages.specs.declared.fault.StoreFault.TheVariants as faults
@@ -18,11 +18,11 @@ use Rattle.s38_pages.specs.declared.fault.StoreFault.TheVariants as faults
 abbrev pub fewest : ℕ
 fewest = 4096
 
--- where things stand in a store on a disk of so many blocks: the first 131,072 of them at most
+-- where things lie in a store on a disk of so many blocks: the first 131,072 of them at most
 abbrev pub layout_of : ℕ → Layout
 layout_of blocks = record { first = 2306; hole = 0; size = min blocks 131072; most = 2286 }
 
--- the first damage of the log: its count, or else the first home number that is none or stands there already
+-- the first damage of the log: its count, or else the first home number that is none or occurs before
 abbrev pub IsDamaged : Layout → (ℕ → Block) → ℕ → Type 0
 IsDamaged lay f block =
     (((log_count f ≡ 0) ⊎ (lay.most < log_count f)) × (block ≡ 2))
@@ -38,7 +38,7 @@ IsLogFault lay f (faults.TwoBlocks first second) = ⊥
 IsLogFault lay f faults.Failed = Unit {0}
 IsLogFault lay f faults.NoMemory = Unit {0}
 
--- why a log behind a raised gate is not done again
+-- why the log is not replayed, though its gate is up
 abbrev pub IsFinishFault : Layout → (ℕ → Block) → StoreFault → Type 0
 IsFinishFault lay f (faults.TooSmall size) = ⊥
 IsFinishFault lay f faults.AlreadyInstalled = ⊥
@@ -58,38 +58,38 @@ IsIndexFault lay f (faults.TwoBlocks first second) = AreTwins lay f first second
 IsIndexFault lay f faults.Failed = Unit {0}
 IsIndexFault lay f faults.NoMemory = Unit {0}
 
--- a log behind a raised gate is done again
-pub record IsFinished (lay : Layout) (s t : State) : Type 0 where
-  pub settled : IsSettled s → IsSettled t
-  pub homes : (i : ℕ) → is_home lay i ≡ true → t.now i ≡ redone s.now i
+-- the log is replayed if its gate is up
+pub record IsFinished (lay : Layout) (s t : DiskState) : Type 0 where
+  pub settled : IsSynced s → IsSynced t
+  pub homes : (i : ℕ) → is_home lay i ≡ true → t.now i ≡ log_replayed s.now i
   pub log : is_up (s.now 1) ≡ true → IsLog lay (log_of s.now)
-  pub rests : (m : Content) → IsSettled s → Stands lay s.now m → Rests lay t.now m
+  pub rests : (m : Content) → IsSynced s → RecoversTo lay s.now m → Idle lay t.now m
 
 -- the same, and nothing is pending
-pub record IsReady (lay : Layout) (s t : State) : Type 0 where
-  pub settled : IsSettled t
-  pub homes : (i : ℕ) → is_home lay i ≡ true → t.now i ≡ redone s.now i
+pub record IsReady (lay : Layout) (s t : DiskState) : Type 0 where
+  pub settled : IsSynced t
+  pub homes : (i : ℕ) → is_home lay i ≡ true → t.now i ≡ log_replayed s.now i
   pub log : is_up (s.now 1) ≡ true → IsLog lay (log_of s.now)
-  pub rests : (m : Content) → Stands lay s.now m → Rests lay t.now m
+  pub rests : (m : Content) → RecoversTo lay s.now m → Idle lay t.now m
 
 -- the entry of the log at a place
-abbrev pub entry_at : (ℕ → Block) → ℕ → Slot
-entry_at f k = record { home = log_word f (k + 1); block = f (log_data (log_count f) + k) }
+abbrev pub log_entry_at : (ℕ → Block) → ℕ → Slot
+log_entry_at f k = record { home = log_word f (k + 1); block = f (log_data (log_count f) + k) }
 
 -- why a store of these blocks is not mounted
 abbrev pub IsRefused : ℕ → (ℕ → Block) → StoreFault → Type 0
 IsRefused blocks f (faults.TooSmall size) = (size ≡ blocks) × (blocks < fewest)
 IsRefused blocks f faults.AlreadyInstalled = ⊥
-IsRefused blocks f faults.NotInstalled = (fewest ≤ blocks) × (is_label (f 0) ≡ false)
-IsRefused blocks f (faults.LogDamaged block) = (fewest ≤ blocks) × (is_label (f 0) ≡ true) × (is_up (f 1) ≡ true) × IsDamaged (layout_of blocks) f block
+IsRefused blocks f faults.NotInstalled = (fewest ≤ blocks) × (is_store_label (f 0) ≡ false)
+IsRefused blocks f (faults.LogDamaged block) = (fewest ≤ blocks) × (is_store_label (f 0) ≡ true) × (is_up (f 1) ≡ true) × IsDamaged (layout_of blocks) f block
 IsRefused blocks f (faults.TwoBlocks first second) =
-    (fewest ≤ blocks) × (is_label (f 0) ≡ true) × (is_up (f 1) ≡ true → IsLog (layout_of blocks) (log_of f)) × AreTwins (layout_of blocks) (redone f) first second
+    (fewest ≤ blocks) × (is_store_label (f 0) ≡ true) × (is_up (f 1) ≡ true → IsLog (layout_of blocks) (log_of f)) × AreTwins (layout_of blocks) (log_replayed f) first second
 IsRefused blocks f faults.Failed = Unit {0}
 IsRefused blocks f faults.NoMemory = Unit {0}
 
--- a crash leaves the content that the store stood for
-pub record IsMounted (lay : Layout) (s u : State) : Type 0 where
-  pub each : (m : Content) → IsSettled s → Stands lay s.now m → (g : ℕ → Block) → IsImage u g → Stands lay g m
+-- a crash leaves the content that the store held
+pub record IsMounted (lay : Layout) (s u : DiskState) : Type 0 where
+  pub each : (m : Content) → IsSynced s → RecoversTo lay s.now m → (g : ℕ → Block) → IsCrashImage u g → RecoversTo lay g m
 
 -- a disk is too small for a store exactly where it has fewer than the fewest blocks
 abbrev pub IsSized : ℕ → StoreFault → Type 0

@@ -6,7 +6,7 @@ use Rattle.s38_disk.specs.declared.block.Block.{Block}
 use Rattle.s38_disk.specs.declared.block.Call.{Call}
 use Rattle.s38_disk.specs.declared.block.Call.TheVariants.{Wrote, Synced}
 use Rattle.s38_disk.specs.Disk.{DiskView, Past, Told, Untold}
-use Rattle.s38_blocks.specs.declared.layout.Layout.{Layout}
+use Rattle.s38_redo_log.specs.declared.layout.Layout.{Layout}
 use Rattle.s38_pages.specs.Index.{Homes}
 use Rattle.s38_pages.specs.Vaults.{PageStore, homes_code}
 

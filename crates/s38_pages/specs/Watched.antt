@@ -5,7 +5,7 @@ use base.Stored.Gv.{gnil, gnum, gcons}
 use Rattle.s38_disk.specs.Moves.{Moves}
 use Rattle.s38_vault.specs.Vaults.{VaultView}
 use Rattle.s38_pages.specs.Stored.{store_code}
-use Rattle.s38_pages.specs.Vaults.{IsWhole, PageStore, page_view}
+use Rattle.s38_pages.specs.Vaults.{AlwaysMounts, PageStore, page_view}
 
 -- the vault as it was when the watch began, and as it is
 pub record WatchedStore : Type 0 where
@@ -17,7 +17,7 @@ pub record IsWatched (first now : PageStore) : Type 0 where
   pub start : now.start ≡ first.start
   pub layout : now.layout ≡ first.layout
   pub most : ℕ
-  pub moves : Moves first.disk now.disk most (IsWhole first.layout)
+  pub moves : Moves first.disk now.disk most (AlwaysMounts first.layout)
 
 -- ---- one number for all that is seen of a vault
 

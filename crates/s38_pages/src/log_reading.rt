@@ -2,22 +2,22 @@
 ghost use Rattle.std.specs.Prelude.{◌≡◌, ◌≤◌, ◌<◌, ◌+◌, ◌/◌, ◌^◌, ◌==◌, ◌&&◌, [], not, IfErr, IfOk, OnOk, false, length, replicate};
 ghost use Rattle.std.specs.Vec.{vec_capacity};
 ghost use Rattle.s38_base.specs.Faults.{HasCause, HasCauseOf};
-ghost use Rattle.s38_blocks.specs.Store.{AreHomes, IsLayout, IsLog, is_home, log_count, log_of, targets};
-ghost use Rattle.s38_disk.specs.Blocks.{State};
+ghost use Rattle.s38_redo_log.specs.Store.{AreHomes, IsLayout, IsLog, is_home, log_count, log_of, targets};
+ghost use Rattle.s38_disk.specs.Blocks.{DiskState};
 ghost use Rattle.s38_disk.specs.Disk.{IsAt};
 ghost use Rattle.s38_pages.specs.Index.{marked};
-ghost use Rattle.s38_pages.specs.Mounts.{IsLogFault, IsNotOfSize, entry_at};
+ghost use Rattle.s38_pages.specs.Mounts.{IsLogFault, IsNotOfSize, log_entry_at};
 
 use crate::fault::StoreFault;
 use s38_base::Failed;
-use s38_blocks::{Layout, Slot, word_of, zero_block};
 use s38_disk::Disk;
+use s38_redo_log::{Layout, Slot, word_of, zero_block};
 use std::alloc::Global;
 
 /// How many entries the log has, as it says.
 fn read_count<D: Disk>(disk: &mut D) -> Result<u32, Failed>
     requires { 2 < (D.view disk.old).size }
-    ensures gives { IfOk result (λ count. (s : State) → IsAt (D.view disk.old).past s → log_count s.now ≡ count) }
+    ensures gives { IfOk result (λ count. (s : DiskState) → IsAt (D.view disk.old).past s → log_count s.now ≡ count) }
     ensures size { (D.view disk.new).size ≡ (D.view disk.old).size }
     ensures past { (D.view disk.new).past ≡ (D.view disk.old).past }
     ensures cause { HasCause (D.view disk.old).faults (D.view disk.new).faults result }
@@ -33,7 +33,7 @@ fn read_entry<D: Disk>(disk: &mut D, count: u32, k: u32) -> Result<Slot, Failed>
     requires few { count < 2 ^ 31 }
     requires place { k < count }
     requires size { 3 + count / 132 + count ≤ (D.view disk.old).size }
-    ensures gives { IfOk result (λ slot. (s : State) → IsAt (D.view disk.old).past s → log_count s.now ≡ count → slot ≡ entry_at s.now k) }
+    ensures gives { IfOk result (λ slot. (s : DiskState) → IsAt (D.view disk.old).past s → log_count s.now ≡ count → slot ≡ log_entry_at s.now k) }
     ensures size { (D.view disk.new).size ≡ (D.view disk.old).size }
     ensures past { (D.view disk.new).past ≡ (D.view disk.old).past }
     ensures cause { HasCause (D.view disk.old).faults (D.view disk.new).faults result }
@@ -71,8 +71,8 @@ fn read_slots<D: Disk>(
     requires seen { seen.old.items ≡ replicate layout.now.size false }
     ensures homes { OnOk result (AreHomes layout.now slots.new.items) }
     ensures len { OnOk result (length slots.new.items ≡ count) }
-    ensures gives { OnOk result ((s : State) → IsAt (D.view disk.old).past s → log_count s.now ≡ count → log_of s.now ≡ slots.new.items) }
-    ensures damaged { IfErr result (λ fault. (s : State) → IsAt (D.view disk.old).past s → log_count s.now ≡ count → IsLogFault layout.now s.now fault) }
+    ensures gives { OnOk result ((s : DiskState) → IsAt (D.view disk.old).past s → log_count s.now ≡ count → log_of s.now ≡ slots.new.items) }
+    ensures damaged { IfErr result (λ fault. (s : DiskState) → IsAt (D.view disk.old).past s → log_count s.now ≡ count → IsLogFault layout.now s.now fault) }
     ensures other { IfErr result IsNotOfSize }
     ensures size { (D.view disk.new).size ≡ (D.view disk.old).size }
     ensures past { (D.view disk.new).past ≡ (D.view disk.old).past }
@@ -92,7 +92,7 @@ fn read_slots<D: Disk>(
     Ok(())
 }
 
-/// Reads the log of a store. It is damaged where its count is out of range, or where a home is none or stands there twice.
+/// Reads the log of a store. It is damaged if its count is out of range, or if a home number is none or occurs twice.
 pub fn read_log<D: Disk>(
     alloc: Global,
     disk: &mut D,
@@ -102,8 +102,8 @@ pub fn read_log<D: Disk>(
     requires few { layout.now.most < 2 ^ 31 }
     requires size { layout.now.size ≤ (D.view disk.old).size }
     ensures log { IfOk result (λ slots. IsLog layout.now slots.items) }
-    ensures gives { IfOk result (λ slots. (s : State) → IsAt (D.view disk.old).past s → (log_count s.now ≡ length slots.items) × (log_of s.now ≡ slots.items)) }
-    ensures damaged { IfErr result (λ fault. (s : State) → IsAt (D.view disk.old).past s → IsLogFault layout.now s.now fault) }
+    ensures gives { IfOk result (λ slots. (s : DiskState) → IsAt (D.view disk.old).past s → (log_count s.now ≡ length slots.items) × (log_of s.now ≡ slots.items)) }
+    ensures damaged { IfErr result (λ fault. (s : DiskState) → IsAt (D.view disk.old).past s → IsLogFault layout.now s.now fault) }
     ensures other { IfErr result IsNotOfSize }
     ensures size { (D.view disk.new).size ≡ (D.view disk.old).size }
     ensures past { (D.view disk.new).past ≡ (D.view disk.old).past }

@@ -2,7 +2,7 @@ ghost use Rattle.std.specs.Prelude.{◌≡◌, ◌≤◌, ◌<◌, ℕ, IfOk, fa
 ghost use Rattle.s38_pages.specs.Index.{first_marks, marked, unmarked};
 
 use s38_base::NoMemory;
-use s38_blocks::Layout;
+use s38_redo_log::Layout;
 use std::alloc::Global;
 use std::marker::Model;
 

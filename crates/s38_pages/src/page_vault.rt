@@ -1,15 +1,15 @@
 ghost use Rattle.std.specs.Prelude.{◌≡◌, ◌<◌, ◌≤◌, ◌+◌, ◌/◌, ◌*◌, ℕ, length, is_ok, false, true, IfErr, IfOk, OnOk};
 ghost use Rattle.std.specs.FinMap.{get};
 ghost use Rattle.s38_base.specs.Faults.{HasCause, Rose};
-ghost use Rattle.s38_blocks.specs.Coding.{is_label};
-ghost use Rattle.s38_blocks.specs.Store.{Stands};
+ghost use Rattle.s38_redo_log.specs.Coding.{is_store_label};
+ghost use Rattle.s38_redo_log.specs.Store.{RecoversTo};
 ghost use Rattle.std.specs.Vec.{vec_capacity};
-ghost use Rattle.s38_disk.specs.Blocks.{State};
+ghost use Rattle.s38_disk.specs.Blocks.{DiskState};
 ghost use Rattle.s38_pages.specs.Formats.{IsMaking, IsUnmade, first_content, most_first};
 ghost use Rattle.s38_pages.specs.Mounts.{IsMounted, IsRefused, IsSized, fewest, layout_of};
 ghost use Rattle.s38_disk.specs.Costs.{Costs};
 ghost use Rattle.s38_disk.specs.Disk.{IsAt, moment_of};
-ghost use Rattle.s38_disk.specs.Moves.{IsSettled, Moves};
+ghost use Rattle.s38_disk.specs.Moves.{IsSynced, Moves};
 ghost use Rattle.s38_vault.specs.Content.{AreRising, Content, HaveObjects, changed};
 ghost use Rattle.s38_vault.specs.Directory.{changed_keys, keys_of, new_keys};
 ghost use Rattle.s38_pages.specs.Vaults.{IsOneOf, IsVault, page_holds, page_leaves, page_view};
@@ -21,15 +21,15 @@ use crate::mounting::{Opened, open};
 use crate::plan::{give_back, plan};
 use crate::writing::write_all;
 use s38_base::{Change, Failed};
-use s38_blocks::{Layout, Slot};
 use s38_disk::Disk;
+use s38_redo_log::{Layout, Slot};
 use s38_vault::Keyed;
 use std::alloc::Global;
 use std::marker::Model;
 use std::snapshot::Snapshot;
 
 /// A vault over a disk. After a put that failed it no longer tells what it holds, and each further put is refused.
-/// Contracts see the disk and the layout, at which home each key stands, for how many new keys memory is reserved,
+/// Contracts see the disk and the layout, which home holds each key, for how many new keys memory is reserved,
 /// whether no put has failed, how many puts were refused since one failed, and how often the disk had failed as the vault
 /// was made.
 #[derive(Drop)]
@@ -86,15 +86,15 @@ impl<D: Disk> PageVault<D> {
         }
     }
 
-    /// Mounts the store on a disk: a log behind a raised gate is done again. The disk comes back with the reason where
+    /// Mounts the store on a disk: the log is replayed if its gate is up. The disk comes back with the reason where
     /// the store is refused. Whenever a crash comes meanwhile, the store mounts to the same content.
     pub fn mount(alloc: Global, mut disk: D) -> Result<Self, (D, StoreFault)>
         ensures vault { IfOk result (λ v. (v.good ≡ true) × (v.refused ≡ 0) × (v.layout ≡ layout_of (D.view disk).size)) }
-        ensures content { IfOk result (λ v. (s : State) → IsAt (D.view disk).past s → (m : Content) × (Stands (layout_of (D.view disk).size) s.now m × page_holds v m)) }
+        ensures content { IfOk result (λ v. (s : DiskState) → IsAt (D.view disk).past s → (m : Content) × (RecoversTo (layout_of (D.view disk).size) s.now m × page_holds v m)) }
         ensures moves { IfOk result (λ v. Moves (D.view disk) v.disk 2290 (IsMounted (layout_of (D.view disk).size))) }
         ensures count { IfOk result (λ v. v.disk.faults ≡ (D.view disk).faults) }
         ensures start { IfOk result (λ v. v.start ≡ (D.view disk).faults) }
-        ensures refused { IfErr result (λ e. (s : State) → IsAt (D.view disk).past s → IsRefused (D.view disk).size s.now e.1) }
+        ensures refused { IfErr result (λ e. (s : DiskState) → IsAt (D.view disk).past s → IsRefused (D.view disk).size s.now e.1) }
         ensures large { OnOk result (fewest ≤ (D.view disk).size) }
         ensures sized { IfErr result (λ e. IsSized (D.view disk).size e.1) }
         ensures crash { IfErr result (λ e. Moves (D.view disk) (D.view e.0) 2290 (IsMounted (layout_of (D.view disk).size))) }
@@ -114,10 +114,10 @@ impl<D: Disk> PageVault<D> {
         requires rising { AreRising first.now }
         requires objects { HaveObjects first.now }
         ensures vault { IfOk result (λ v. (v.good ≡ true) × (v.refused ≡ 0) × (v.layout ≡ layout_of (D.view disk).size)) }
-        ensures content { IfOk result (λ v. (s : State) → IsAt (D.view disk).past s → page_holds v (first_content first.now)) }
+        ensures content { IfOk result (λ v. (s : DiskState) → IsAt (D.view disk).past s → page_holds v (first_content first.now)) }
         ensures keys { IfOk result (λ v. keys_of v.homes ≡ keys_of (first_content first.now)) }
         ensures large { OnOk result (fewest ≤ (D.view disk).size) }
-        ensures fresh { OnOk result ((s : State) → IsAt (D.view disk).past s → is_label (s.now 0) ≡ false) }
+        ensures fresh { OnOk result ((s : DiskState) → IsAt (D.view disk).past s → is_store_label (s.now 0) ≡ false) }
         ensures moves { IfOk result (λ v. Moves (D.view disk) v.disk (v.layout.size + length first.now + 3) (IsMaking v.layout (first_content first.now))) }
         ensures count { IfOk result (λ v. v.disk.faults ≡ (D.view disk).faults) }
         ensures start { IfOk result (λ v. v.start ≡ (D.view disk).faults) }
@@ -132,14 +132,14 @@ impl<D: Disk> PageVault<D> {
         }
     }
 
-    /// Gives the disk back. What the vault tells that it holds is what the blocks of the disk stand for. Nothing is pending
-    /// where no put has failed. Since the vault was made the disk's count of faults rose where the vault's did, and stood
-    /// still where the vault's did.
+    /// Gives the disk back. What the vault tells that it holds is what the blocks of the disk hold. Nothing is pending
+    /// where no put has failed. Since the vault was made the disk's count of faults rose where the vault's did, and stayed
+    /// the same where the vault's did.
     pub fn release(self) -> D
         ensures disk { D.view result ≡ self.disk }
         ensures layout { self.layout ≡ layout_of (D.view result).size }
-        ensures stands { (m : Content) → page_holds self m → (s : State) → IsAt (D.view result).past s → Stands (layout_of (D.view result).size) s.now m }
-        ensures settled { self.good ≡ true → (s : State) → IsAt (D.view result).past s → IsSettled s }
+        ensures stands { (m : Content) → page_holds self m → (s : DiskState) → IsAt (D.view result).past s → RecoversTo (layout_of (D.view result).size) s.now m }
+        ensures settled { self.good ≡ true → (s : DiskState) → IsAt (D.view result).past s → IsSynced s }
         ensures cause { Rose self.start (page_view self).faults → Rose self.start (D.view result).faults }
         ensures count { (page_view self).faults ≡ self.start → (D.view result).faults ≡ self.start }
     {

@@ -5,13 +5,13 @@ ghost use Rattle.std.specs.FinMap.{get};
 ghost use Rattle.s38_base.specs.declared.page.Change.{Change};
 ghost use Rattle.s38_vault.specs.Content.{AreRising, HaveObjects};
 ghost use Rattle.s38_vault.specs.Directory.{is_new, keys_of, new_keys};
-ghost use Rattle.s38_blocks.specs.declared.layout.Layout.{Layout};
-ghost use Rattle.s38_blocks.specs.Store.{targets};
-ghost use Rattle.s38_pages.specs.Index.{AreApart, AreFreeHomes, HasKey, Homes, Index, IsIndex, Planned, Tallied, count_freed, freed, frees, marked, unmarked};
+ghost use Rattle.s38_redo_log.specs.declared.layout.Layout.{Layout};
+ghost use Rattle.s38_redo_log.specs.Store.{targets};
+ghost use Rattle.s38_pages.specs.Index.{AreFreeHomes, HasKey, HaveOwnHomes, Homes, Index, IsHomeIndex, Planned, Tallied, count_freed, freed, frees, marked, unmarked};
 
 use crate::marks::Marks;
 use s38_base::Change;
-use s38_blocks::{Slot, block_of, key_of, zero_block};
+use s38_redo_log::{Slot, block_of, key_of, zero_block};
 use s38_vault::Keyed;
 
 /// Whether a change brings a key that is not there.
@@ -81,7 +81,7 @@ pub fn plan(homes: &mut Keyed<u32>, marks: &mut Marks, slots: &mut Vec<Slot>, ch
     requires free { new_keys (keys_of homes.old.values) changes.now ≤ unmarked marks.old }
     requires rising { AreRising changes.now }
     requires objects { HaveObjects changes.now }
-    ensures planned { (lay : Layout) → AreFreeHomes lay marks.old → IsIndex lay (get homes.old.values) (marked marks.old)
+    ensures planned { (lay : Layout) → AreFreeHomes lay marks.old → IsHomeIndex lay (get homes.old.values) (marked marks.old)
         → Planned lay (get homes.old.values) (get homes.new.values) (marked marks.new) slots.new.items changes.now }
     ensures tallied { Tallied homes.old.values homes.new.values marks.old marks.new slots.new.items changes.now }
     ensures free { (lay : Layout) → AreFreeHomes lay marks.old → AreFreeHomes lay marks.new }
@@ -107,7 +107,7 @@ fn give_back_one(marks: &mut Marks, slot: &Slot)
 /// Frees the homes of the slots without a page.
 pub fn give_back(marks: &mut Marks, slots: &[Slot])
     requires marked { (h : ℕ) → targets slots.now h ≡ true → marked marks.old h ≡ true }
-    requires apart { AreApart slots.now }
+    requires apart { HaveOwnHomes slots.now }
     ensures marks { (h : ℕ) → marked marks.new h ≡ (marked marks.old h && not (freed slots.now h)) }
     ensures count { unmarked marks.new ≡ unmarked marks.old + count_freed slots.now }
     ensures size { length marks.new ≡ length marks.old }

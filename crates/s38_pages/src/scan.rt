@@ -3,23 +3,23 @@ ghost use Rattle.std.specs.Prelude.{◌≡◌, ◌≤◌, ◌<◌, ◌+◌, None
 ghost use Rattle.std.specs.BTreeMap.{IsEmpty};
 ghost use Rattle.std.specs.FinMap.{empty, get, len};
 ghost use Rattle.s38_base.specs.Faults.{HasCauseOf};
-ghost use Rattle.s38_blocks.specs.declared.layout.Layout.{Layout};
-ghost use Rattle.s38_blocks.specs.Store.{is_home};
-ghost use Rattle.s38_disk.specs.Blocks.{State};
+ghost use Rattle.s38_redo_log.specs.declared.layout.Layout.{Layout};
+ghost use Rattle.s38_redo_log.specs.Store.{is_home};
+ghost use Rattle.s38_disk.specs.Blocks.{DiskState};
 ghost use Rattle.s38_disk.specs.Disk.{IsAt};
 ghost use Rattle.s38_pages.specs.Mounts.{IsIndexFault, IsNotOfSize};
-ghost use Rattle.s38_pages.specs.Scan.{Keeps, ScanGives, homes_of, noted, twin_of};
+ghost use Rattle.s38_pages.specs.Scan.{IsScannedTo, ScanGives, home_noted, homes_of, twin_of};
 
 use crate::fault::StoreFault;
 use crate::marks::Marks;
 use s38_base::{Key, NoMemory};
-use s38_blocks::{Layout, key_of, zero_block};
 use s38_disk::{Block, Disk};
+use s38_redo_log::{Layout, key_of, zero_block};
 use s38_vault::Keyed;
 use std::alloc::Global;
 use std::collections::BTreeMap;
 
-/// Notes the block of a home. Some where its key stands already, and then nothing is noted.
+/// Notes the block of a home. If another home already holds its key, the answer is that home, and nothing is noted.
 fn note(
     homes: &mut BTreeMap<Key, u32>,
     marks: &mut Marks,
@@ -28,8 +28,8 @@ fn note(
 ) -> Result<Option<u32>, NoMemory>
     requires { at < length marks.old }
     ensures twin { IfOk result (λ twin. twin ≡ twin_of (get (homes_of homes.old)) block.now) }
-    ensures index { OnOk result (get (homes_of homes.new) ≡ noted (get (homes_of homes.old)) at block.now) }
-    ensures keeps { OnOk result ((lay : Layout) → Keeps lay (homes_of homes.old) marks.old at → is_home lay at ≡ true → Keeps lay (homes_of homes.new) marks.new (at + 1)) }
+    ensures index { OnOk result (get (homes_of homes.new) ≡ home_noted (get (homes_of homes.old)) at block.now) }
+    ensures keeps { OnOk result ((lay : Layout) → IsScannedTo lay (homes_of homes.old) marks.old at → is_home lay at ≡ true → IsScannedTo lay (homes_of homes.new) marks.new (at + 1)) }
     ensures size { length marks.new ≡ length marks.old }
 {
     let key = key_of(block);
@@ -56,12 +56,12 @@ fn read_homes<D: Disk>(
     requires size { layout.now.size ≤ (D.view disk.old).size }
     requires order { layout.now.first ≤ layout.now.size }
     requires empty { homes_of homes.old ≡ empty }
-    requires keeps { Keeps layout.now (homes_of homes.old) marks.old layout.now.first }
-    ensures gives { IfOk result (λ pair. (s : State) → IsAt (D.view disk.old).past s → ScanGives layout.now s.now pair (get (homes_of homes.new))) }
-    ensures keeps { IfOk result (λ pair. pair ≡ None → Keeps layout.now (homes_of homes.new) marks.new layout.now.size) }
+    requires keeps { IsScannedTo layout.now (homes_of homes.old) marks.old layout.now.first }
+    ensures gives { IfOk result (λ pair. (s : DiskState) → IsAt (D.view disk.old).past s → ScanGives layout.now s.now pair (get (homes_of homes.new))) }
+    ensures keeps { IfOk result (λ pair. pair ≡ None → IsScannedTo layout.now (homes_of homes.new) marks.new layout.now.size) }
     ensures past { (D.view disk.new).past ≡ (D.view disk.old).past }
     ensures size { (D.view disk.new).size ≡ (D.view disk.old).size }
-    ensures refused { IfErr result (λ fault. (s : State) → IsAt (D.view disk.old).past s → IsIndexFault layout.now s.now fault) }
+    ensures refused { IfErr result (λ fault. (s : DiskState) → IsAt (D.view disk.old).past s → IsIndexFault layout.now s.now fault) }
     ensures other { IfErr result IsNotOfSize }
     ensures cause { HasCauseOf (D.view disk.old).faults (D.view disk.new).faults result StoreFault.Failed }
     ensures count { OnOk result ((D.view disk.new).faults ≡ (D.view disk.old).faults) }
@@ -102,12 +102,12 @@ pub fn scan<D: Disk>(
     requires order { layout.now.first ≤ layout.now.size }
     requires room { layout.now.size ≤ homes.old.spare + layout.now.first }
     requires empty { homes.old.values ≡ empty }
-    requires keeps { Keeps layout.now homes.old.values marks.old layout.now.first }
-    ensures gives { IfOk result (λ pair. (s : State) → IsAt (D.view disk.old).past s → ScanGives layout.now s.now pair (get homes.new.values)) }
-    ensures keeps { IfOk result (λ pair. pair ≡ None → Keeps layout.now homes.new.values marks.new layout.now.size) }
+    requires keeps { IsScannedTo layout.now homes.old.values marks.old layout.now.first }
+    ensures gives { IfOk result (λ pair. (s : DiskState) → IsAt (D.view disk.old).past s → ScanGives layout.now s.now pair (get homes.new.values)) }
+    ensures keeps { IfOk result (λ pair. pair ≡ None → IsScannedTo layout.now homes.new.values marks.new layout.now.size) }
     ensures past { (D.view disk.new).past ≡ (D.view disk.old).past }
     ensures size { (D.view disk.new).size ≡ (D.view disk.old).size }
-    ensures refused { IfErr result (λ fault. (s : State) → IsAt (D.view disk.old).past s → IsIndexFault layout.now s.now fault) }
+    ensures refused { IfErr result (λ fault. (s : DiskState) → IsAt (D.view disk.old).past s → IsIndexFault layout.now s.now fault) }
     ensures other { IfErr result IsNotOfSize }
     ensures cause { HasCauseOf (D.view disk.old).faults (D.view disk.new).faults result StoreFault.Failed }
     ensures count { OnOk result ((D.view disk.new).faults ≡ (D.view disk.old).faults) }

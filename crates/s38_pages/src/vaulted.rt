@@ -8,21 +8,21 @@ ghost use Rattle.s38_vault.specs.Content.{AreRising, Content, HaveObjects, chang
 ghost use Rattle.s38_vault.specs.Directory.{changed_keys, gone_keys, new_keys};
 ghost use Rattle.s38_vault.specs.Vaults.{refusal};
 ghost use Rattle.s38_base.specs.Limits.{body_limit};
-ghost use Rattle.s38_pages.specs.Index.{parts_of};
-ghost use Rattle.s38_pages.specs.Vaults.{IsOneOf, IsWhole, page_holds, page_leaves, page_view};
+ghost use Rattle.s38_pages.specs.Index.{home_count};
+ghost use Rattle.s38_pages.specs.Vaults.{AlwaysMounts, IsOneOf, page_holds, page_leaves, page_view};
 
 use crate::page_vault::PageVault;
 use crate::plan::count_new;
 use crate::reading::read_page;
 use s38_base::{Change, Failed, Key, NoMemory, Page, limits};
-use s38_blocks::Layout;
 use s38_disk::Disk;
+use s38_redo_log::Layout;
 use s38_vault::{Vault, VaultFault};
 
 /// How many homes there are.
 pub fn parts(layout: &Layout) -> u32
     requires { layout.now.first ≤ layout.now.size }
-    ensures { result ≡ parts_of layout.now }
+    ensures { result ≡ home_count layout.now }
 {
     let homes = layout.size - layout.first;
     if layout.first <= layout.hole && layout.hole < layout.size {
@@ -60,7 +60,7 @@ impl<D: Disk> Vault for PageVault<D> {
         ensures blame { OnErr result (Rose self.old.start self.new.disk.faults) }
 
         // Nothing is written.
-        ensures whole { Moves self.old.disk self.new.disk 0 (IsWhole self.old.layout) }
+        ensures whole { Moves self.old.disk self.new.disk 0 (AlwaysMounts self.old.layout) }
         ensures layout { self.new.layout ≡ self.old.layout }
     {
         match self.homes.get(key) {
@@ -129,7 +129,7 @@ impl<D: Disk> Vault for PageVault<D> {
         // So many calls of the disk at most write or sync, and each leaves what was held before or after. So many writes,
         // and at most four syncs.
         ensures moves { Moves self.old.disk self.new.disk (2 * length changes.now + length changes.now / 132 + 7) (IsOneOf self.old.layout (get self.old.homes) changes.now) }
-        ensures whole { Moves self.old.disk self.new.disk (2 * length changes.now + length changes.now / 132 + 7) (IsWhole self.old.layout) }
+        ensures whole { Moves self.old.disk self.new.disk (2 * length changes.now + length changes.now / 132 + 7) (AlwaysMounts self.old.layout) }
         ensures layout { self.new.layout ≡ self.old.layout }
         ensures cost { Costs self.old.disk self.new.disk (2 * length changes.now + length changes.now / 132 + 3) 4 }
     {

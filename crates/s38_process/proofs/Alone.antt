@@ -15,9 +15,11 @@ use Rattle.s38_process.specs.declared.status.Status.TheVariants.{Fresh, Running,
 use Rattle.s38_local.specs.Frames.{Went}
 use Rattle.s38_process.specs.Exceptions.{offered}
 use Rattle.s38_process.specs.Invocations.{Stack, instruction_of}
-use Rattle.s38_process.specs.Process.{ProcessState, absorbed, after_asked, after_local, after_offer, alone, alone_by, alone_there, event_of, fresh, local_step, local_steps, ran, settled, with_frame}
+use Rattle.s38_process.specs.Process.{ProcessState, after_offer, event_of, fresh, with_frame}
+use Rattle.s38_process.specs.AfterReply.{absorbed, after_asked}
+use Rattle.s38_process.specs.LocalRun.{after_local, after_local_run, alone, alone_by, alone_there, local_step, local_steps, ran}
 
--- it stays where it stands, or is running and comes to its end
+-- it stays where it is, or is running and comes to its end
 abbrev pub Moves : Status → Status → Type 0
 Moves s t = (t ≡ s) ⊎ ((s ≡ Running) × ((c : EndCause) × (t ≡ Ending c)))
 
@@ -88,8 +90,8 @@ unfolding local_steps
 steps_still zero d h = refl
 steps_still (suc n) d h = ap (local_steps n) (step_still d h) ∙ steps_still n d h
 
-pub settled_still : (d : ProcessState) → alone d ≡ false → settled d ≡ d
-unfolding settled
+pub settled_still : (d : ProcessState) → alone d ≡ false → after_local_run d ≡ d
+unfolding after_local_run
 settled_still d h = steps_still (d.budget - d.done) d h
 
 one_more : (k : ℕ) (d : ProcessState) → k ≡ d.budget - d.done → d.done < d.budget → k ≡ suc (d.budget - (d.done + 1))
@@ -99,16 +101,16 @@ steps_more : (k : ℕ) (d : ProcessState) → local_steps (suc k) d ≡ local_st
 unfolding local_steps
 steps_more k d = refl
 
-settled_by : (b : Bool) (d : ProcessState) → alone d ≡ b → settled (local_step d) ≡ settled d
-unfolding settled
-settled_by false d h = ap settled (step_still d h)
+settled_by : (b : Bool) (d : ProcessState) → alone d ≡ b → after_local_run (local_step d) ≡ after_local_run d
+unfolding after_local_run
+settled_by false d h = ap after_local_run (step_still d h)
 settled_by true d h =
     let next = step_next d h in
     let left : d.budget - d.done ≡ suc ((local_step d).budget - (local_step d).done) = omega (arith, next.budget, next.done, next.room) in
     sym (ap (λ k. local_steps k d) left ∙ steps_more ((local_step d).budget - (local_step d).done) d)
 
 -- a step leads to the same rest
-pub settled_step : (d : ProcessState) → settled (local_step d) ≡ settled d
+pub settled_step : (d : ProcessState) → after_local_run (local_step d) ≡ after_local_run d
 settled_step d = settled_by (alone d) d refl
 
 rests_by : (n : ℕ) (d : ProcessState) (b : Bool) → alone d ≡ b → d.budget - d.done ≤ n → alone (local_steps n d) ≡ false
@@ -120,21 +122,16 @@ rests_by (suc n) d true h enough =
     rests_by n (local_step d) (alone (local_step d)) refl (omega (arith, next.budget, next.done))
 
 -- a settled process has no local instruction before it
-pub settled_rests : (d : ProcessState) → alone (settled d) ≡ false
-unfolding settled
+pub settled_rests : (d : ProcessState) → alone (after_local_run d) ≡ false
+unfolding after_local_run
 settled_rests d = rests_by (d.budget - d.done) d (alone d) refl (omega arith)
 
-pub settled_again : (d : ProcessState) → settled (settled d) ≡ settled d
-settled_again d = settled_still (settled d) (settled_rests d)
+pub settled_again : (d : ProcessState) → after_local_run (after_local_run d) ≡ after_local_run d
+settled_again d = settled_still (after_local_run d) (settled_rests d)
 
 -- so is what has not started
-pub fresh_settled : (made : CreateResult) (budget : ℕ) → settled (fresh made budget) ≡ fresh made budget
+pub fresh_settled : (made : CreateResult) (budget : ℕ) → after_local_run (fresh made budget) ≡ fresh made budget
 fresh_settled made budget = settled_still (fresh made budget) refl
-
--- and what has gone on by a reply
-pub absorbed_settled : (d : ProcessState) (r : Reply) → settled (absorbed d r) ≡ absorbed d r
-unfolding absorbed
-absorbed_settled d r = settled_again (after_asked d (event_of d) r)
 
 end_waits : (d : ProcessState) (o : Option Event) → after_asked d o MustWait ≡ d
 end_waits d None = refl
@@ -143,9 +140,9 @@ end_waits d (Some (Act depth request)) = refl
 end_waits d (Some (Finish cause)) = refl
 
 -- a settled process that has to wait stays
-pub absorbed_waits : (d : ProcessState) → settled d ≡ d → absorbed d MustWait ≡ d
+pub absorbed_waits : (d : ProcessState) → after_local_run d ≡ d → absorbed d MustWait ≡ d
 unfolding absorbed
-absorbed_waits d rests = ap settled (end_waits d (event_of d)) ∙ rests
+absorbed_waits d rests = ap after_local_run (end_waits d (event_of d)) ∙ rests
 
 -- ---- what stays meanwhile
 
@@ -182,6 +179,6 @@ steps_later (suc n) d false h = rw (steps_still (suc n) d h) (later_same d)
 steps_later (suc n) d true h = later_on d (local_step d) (local_steps n (local_step d)) (step_next d h) (steps_later n (local_step d) (alone (local_step d)) refl)
 
 -- local instructions do not change the budget, and count
-pub settled_later : (d : ProcessState) → IsLater d (settled d)
-unfolding settled
+pub settled_later : (d : ProcessState) → IsLater d (after_local_run d)
+unfolding after_local_run
 settled_later d = steps_later (d.budget - d.done) d (alone d) refl

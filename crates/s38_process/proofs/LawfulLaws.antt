@@ -26,9 +26,9 @@ use Rattle.s38_local.specs.declared.frame.Frame.{Frame}
 use Rattle.s38_local.specs.declared.local_end.LocalEnd.{LocalEnd}
 use Rattle.s38_local.specs.declared.local_end.LocalEnd.TheVariants.{Next, Jump, Return, Signal}
 use Rattle.s38_local.specs.Frames.{Went, returned_to}
-use Rattle.s38_local.specs.Law.{EndsWithin, IsMet, IsWithin, KeepsLaw, shape_of, shapes_of}
+use Rattle.s38_local.specs.Law.{ArgumentIsMet, EndsWithin, FrameIsInRange, KeepsLaw, shape_of, shapes_of}
 use Rattle.s38_local.specs.Local.{run}
-use Rattle.s38_local.specs.Variables.{place_of}
+use Rattle.s38_local.specs.Variables.{item_place}
 use Rattle.s38_odt.specs.OperandRules.{keeps_rule}
 use Rattle.s38_odt.specs.Suited.{AreSuited, IsSuited, lands_in}
 use Rattle.s38_odt.specs.Suits.{item_suits}
@@ -37,22 +37,24 @@ use Rattle.s38_local.proofs.LawLaws.{law_kept, law_kept_past}
 use Rattle.s38_process.specs.declared.invocation.Invocation.{Invocation}
 use Rattle.s38_process.specs.declared.status.Status.{Status}
 use Rattle.s38_process.specs.declared.status.Status.TheVariants.{Fresh, Running, Ending, Ended}
-use Rattle.s38_process.specs.Invocations.{Stack, arguments_in, code_in, deepest, depth_of, entered, instruction_of, rows_in}
-use Rattle.s38_process.specs.Lawful.{Either, IsLawful, StandLawful, SuitValues, SuitsBy, SuitsHere, SuitsInto, SuitsPlace, SuitsReply}
-use Rattle.s38_process.specs.Process.{ProcessState, absorbed, act_of, acts, after_act, after_asked, after_event, after_local, after_run, alone, alone_by, alone_there, asks, ends_there, event_of, fresh, is_local_there, is_return, local_step, local_steps, next_instruction, program_in, ran, returns, settled, went_by, went_into, went_on, with_frame}
-use Rattle.s38_process.specs.Replies.{is_taken, label_in, merged, put, received, takes_value}
-use Rattle.s38_process.proofs.LawfulLawsOfCalls.{entered_lawful, exchanged_lawful, first_lawful, invocation_well, popped_lawful, stands_again}
+use Rattle.s38_process.specs.Invocations.{Stack, arguments_in, deepest, depth_of, instruction_of, instructions_in, program_rows_in, with_call}
+use Rattle.s38_process.specs.Lawful.{Either, IsLawful, IsLawfulStack, SuitValues, SuitsBy, SuitsHere, SuitsInto, SuitsPlace, SuitsReply}
+use Rattle.s38_process.specs.Process.{ProcessState, act_of, acts, asks, event_of, fresh, is_return, returns, with_frame}
+use Rattle.s38_process.specs.AfterReply.{absorbed, after_act, after_asked, after_event, next_instruction, program_returned, went_by, went_into, went_on}
+use Rattle.s38_process.specs.LocalRun.{after_local, after_local_run, after_run, alone, alone_by, alone_there, ends_there, is_local_there, local_step, local_steps, ran}
+use Rattle.s38_process.specs.Replies.{branch_is_taken, first_label_in, merged, put_received, takes_value, values_received}
+use Rattle.s38_process.proofs.LawfulLawsOfCalls.{entered_lawful, exchanged_lawful, first_lawful, invocation_well, lawful_at_frame, popped_lawful}
 use Rattle.s38_process.proofs.LawfulLawsOfLists.{all_at, both_true, merged_shape, set_shape, shape_here, shape_there}
 use Rattle.s38_process.proofs.LawfulLawsOfSignals.{offered_lawful}
 
 -- ---- an invocation goes on
 
--- its variables keep their shapes, and it stands within its program
-framed_lawful : (s : Stack) (values : List Val) (frame : Frame) → StandLawful s → shapes_of values ≡ shapes_of s.values → frame.homes ≡ s.top.frame.homes → frame.base ≡ s.top.frame.base
-    → IsWithin (length (code_in s.top.made)) frame → StandLawful (with_frame s values frame)
+-- its variables keep their shapes, and it is within its program
+framed_lawful : (s : Stack) (values : List Val) (frame : Frame) → IsLawfulStack s → shapes_of values ≡ shapes_of s.values → frame.homes ≡ s.top.frame.homes → frame.base ≡ s.top.frame.base
+    → FrameIsInRange (length (instructions_in s.top.made)) frame → IsLawfulStack (with_frame s values frame)
 framed_lawful s values frame stand shapes homes base within =
     let well = invocation_well (shapes_of s.values) s.top s.callers stand in
-    rw shapes (stands_again (shapes_of s.values) s.top (record s.top { frame = frame }) s.callers stand base (record {
+    rw shapes (lawful_at_frame (shapes_of s.values) s.top (record s.top { frame = frame }) s.callers stand base (record {
       program = well.program;
       within = within;
       held = rw homes well.held;
@@ -61,21 +63,21 @@ framed_lawful s values frame stand shapes homes base within =
     }))
 
 -- the next instruction of an invocation is one of its program
-suited_next : (s : Stack) (i : Instruction) → StandLawful s → instruction_of s.top ≡ Some i → IsSuited (rows_in s.top.made) (length (code_in s.top.made)) i
+suited_next : (s : Stack) (i : Instruction) → IsLawfulStack s → instruction_of s.top ≡ Some i → IsSuited (program_rows_in s.top.made) (length (instructions_in s.top.made)) i
 suited_next s i stand is =
-    all_at (IsSuited (rows_in s.top.made) (length (code_in s.top.made))) (code_in s.top.made) s.top.frame.at i is (invocation_well (shapes_of s.values) s.top s.callers stand).program.each
+    all_at (IsSuited (program_rows_in s.top.made) (length (instructions_in s.top.made))) (instructions_in s.top.made) s.top.frame.at i is (invocation_well (shapes_of s.values) s.top s.callers stand).program.each
 
-inside_next : (top : Invocation) (i : Instruction) → instruction_of top ≡ Some i → top.frame.at < length (code_in top.made)
-inside_next top i is = slice_get_within (code_in top.made) top.frame.at i is
+inside_next : (top : Invocation) (i : Instruction) → instruction_of top ≡ Some i → top.frame.at < length (instructions_in top.made)
+inside_next top i is = slice_get_within (instructions_in top.made) top.frame.at i is
 
 -- ---- local instructions
 
 -- what one of them does to an invocation
 abbrev Kept : Stack → List Arg → Went → Type 0
-Kept s given went = KeepsLaw (rows_in s.top.made) (length (code_in s.top.made)) s.top.frame s.values given went
+Kept s given went = KeepsLaw (program_rows_in s.top.made) (length (instructions_in s.top.made)) s.top.frame s.values given went
 
-after_lawful : (d : ProcessState) (given : List Arg) (went : Went) (e : LocalEnd) → IsLawful d → Kept d.stack given went → EndsWithin (length (code_in d.stack.top.made)) e
-    → (e ≡ Next → d.stack.top.frame.at < length (code_in d.stack.top.made)) → IsLawful (after_local d went e)
+after_lawful : (d : ProcessState) (given : List Arg) (went : Went) (e : LocalEnd) → IsLawful d → Kept d.stack given went → EndsWithin (length (instructions_in d.stack.top.made)) e
+    → (e ≡ Next → d.stack.top.frame.at < length (instructions_in d.stack.top.made)) → IsLawful (after_local d went e)
 after_lawful d given went Next stand kept end inside =
     let before = inside refl in
     framed_lawful d.stack went.values (record went.frame { at = d.stack.top.frame.at + 1 }) stand kept.shapes kept.homes kept.base (record { at = omega arith; returns = kept.within.returns })
@@ -95,32 +97,32 @@ past_end rows frame values is = by frame.returns is
     by [] is = cc
     by (at ∷ more) is = cc
 
-run_lawful : (d : ProcessState) (o : Option Instruction) → IsLawful d → instruction_of d.stack.top ≡ o → is_local_there (rows_in d.stack.top.made) o ≡ true
-    → IsLawful (after_run d (run (rows_in d.stack.top.made) d.stack.top.frame d.stack.values o))
+run_lawful : (d : ProcessState) (o : Option Instruction) → IsLawful d → instruction_of d.stack.top ≡ o → is_local_there (program_rows_in d.stack.top.made) o ≡ true
+    → IsLawful (after_run d (run (program_rows_in d.stack.top.made) d.stack.top.frame d.stack.values o))
 run_lawful d None stand is local =
     let s = d.stack in
-    let count = length (code_in s.top.made) in
+    let count = length (instructions_in s.top.made) in
     let well = invocation_well (shapes_of s.values) s.top s.callers stand in
-    let went = run (rows_in s.top.made) s.top.frame s.values None in
-    let past = law_kept_past (rows_in s.top.made) count s.top.frame s.values well.within in
-    let kept : Kept s [] went = record { met = All-nil (IsMet (rows_in s.top.made) s.top.frame.homes (shapes_of s.values)); shapes = ap shapes_of past.2; homes = past.3; base = past.4; within = past.0; end = past.1 } in
-    after_lawful d [] went went.end stand kept past.1 (λ is. absurd (past_end (rows_in s.top.made) s.top.frame s.values is))
+    let went = run (program_rows_in s.top.made) s.top.frame s.values None in
+    let past = law_kept_past (program_rows_in s.top.made) count s.top.frame s.values well.within in
+    let kept : Kept s [] went = record { met = All-nil (ArgumentIsMet (program_rows_in s.top.made) s.top.frame.homes (shapes_of s.values)); shapes = ap shapes_of past.2; homes = past.3; base = past.4; within = past.0; end = past.1 } in
+    after_lawful d [] went went.end stand kept past.1 (λ is. absurd (past_end (program_rows_in s.top.made) s.top.frame s.values is))
 run_lawful d (Some i) stand is local =
     let s = d.stack in
-    let count = length (code_in s.top.made) in
+    let count = length (instructions_in s.top.made) in
     let well = invocation_well (shapes_of s.values) s.top s.callers stand in
-    let went = run (rows_in s.top.made) s.top.frame s.values (Some i) in
-    let kept = law_kept (rows_in s.top.made) count s.top.frame s.values i (suited_next s i stand is) local well.held well.within (inside_next s.top i is) in
+    let went = run (program_rows_in s.top.made) s.top.frame s.values (Some i) in
+    let kept = law_kept (program_rows_in s.top.made) count s.top.frame s.values i (suited_next s i stand is) local well.held well.within (inside_next s.top i is) in
     after_lawful d i.args went went.end stand kept kept.end (λ next. inside_next s.top i is)
 
 unless_false : (b c : Bool) → (if b then false else c) ≡ true → c ≡ true
 unless_false true c h = cc
 unless_false false c h = h
 
-local_there : (d : ProcessState) (status : Status) → alone_by d status ≡ true → is_local_there (rows_in d.stack.top.made) (instruction_of d.stack.top) ≡ true
+local_there : (d : ProcessState) (status : Status) → alone_by d status ≡ true → is_local_there (program_rows_in d.stack.top.made) (instruction_of d.stack.top) ≡ true
 local_there d Running h =
     let o = instruction_of d.stack.top in
-    (both_true (is_local_there (rows_in d.stack.top.made) o) (not (ends_there d.stack o)) (unless_false (nat_le d.budget d.done) (alone_there d.stack o) h)).0
+    (both_true (is_local_there (program_rows_in d.stack.top.made) o) (not (ends_there d.stack o)) (unless_false (nat_le d.budget d.done) (alone_there d.stack o) h)).0
 local_there d Fresh h = cc
 local_there d (Ending cause) h = cc
 local_there d Ended h = cc
@@ -137,13 +139,13 @@ unfolding local_steps
 steps_lawful zero d lawful = lawful
 steps_lawful (suc n) d lawful = steps_lawful n (local_step d) (step_lawful d lawful)
 
-pub settled_lawful : (d : ProcessState) → IsLawful d → IsLawful (settled d)
-unfolding settled
+pub settled_lawful : (d : ProcessState) → IsLawful d → IsLawful (after_local_run d)
+unfolding after_local_run
 settled_lawful d lawful = steps_lawful (d.budget - d.done) d lawful
 
 -- ---- a reply's values
 
-put_shapes : (op : Op) (before values : List Val) (o : Option ℕ) (v : Val) → shapes_of values ≡ shapes_of before → SuitsPlace op before o v → shapes_of (put op values o v) ≡ shapes_of before
+put_shapes : (op : Op) (before values : List Val) (o : Option ℕ) (v : Val) → shapes_of values ≡ shapes_of before → SuitsPlace op before o v → shapes_of (put_received op values o v) ≡ shapes_of before
 put_shapes op before values None v same suits = same
 put_shapes op before values (Some place) v same suits = set_shape values place (merged op (slice_get values place) v) goes ∙ same
   where
@@ -159,36 +161,36 @@ chosen false P Q one other before h f g = g h
 
 -- each variable keeps its shape
 received_shapes : (op : Op) (rows : List Row) (homes : List ℕ) (classes : List Class) (given : List Arg) (vs before values : List Val) → shapes_of values ≡ shapes_of before
-    → SuitValues op rows homes before classes given vs → shapes_of (received op rows homes classes given vs values) ≡ shapes_of before
+    → SuitValues op rows homes before classes given vs → shapes_of (values_received op rows homes classes given vs values) ≡ shapes_of before
 received_shapes op rows homes (class ∷ more) (arg ∷ rest) [] before values same suits = same
 received_shapes op rows homes (class ∷ more) (arg ∷ rest) (v ∷ vs) before values same suits =
-    let at = place_of homes (Some arg) in
+    let at = item_place homes (Some arg) in
     chosen (takes_value rows class arg) (SuitsPlace op before at v × SuitValues op rows homes before more rest vs) (SuitValues op rows homes before more rest (v ∷ vs))
-    (received op rows homes more rest vs (put op values at v)) (received op rows homes more rest (v ∷ vs) values) before suits
-    (λ takes. received_shapes op rows homes more rest vs before (put op values at v) (put_shapes op before values at v same takes.0) takes.1)
+    (values_received op rows homes more rest vs (put_received op values at v)) (values_received op rows homes more rest (v ∷ vs) values) before suits
+    (λ takes. received_shapes op rows homes more rest vs before (put_received op values at v) (put_shapes op before values at v same takes.0) takes.1)
     (λ stays. received_shapes op rows homes more rest (v ∷ vs) before values same stays)
 received_shapes op rows homes [] given vs before values same suits = same
 received_shapes op rows homes (class ∷ more) [] vs before values same suits = same
 
 -- ---- where it goes on
 
-label_within : (count far : ℕ) (given : List Arg) → far ≤ count → list_all (lands_in count) given ≡ true → unwrap_or (label_in given) far ≤ count
+label_within : (count far : ℕ) (given : List Arg) → far ≤ count → list_all (lands_in count) given ≡ true → unwrap_or (first_label_in given) far ≤ count
 label_within count far [] few lands = few
 label_within count far (args.Jump at ∷ rest) few lands =
     let test = (both_true (nat_le at count) (list_all (lands_in count) rest) lands).0 in grind (arith, nat_tests)
 label_within count far (arg ∷ rest) few lands = label_within count far rest few (both_true (lands_in count arg) (list_all (lands_in count) rest) lands).1
 
-pub went_on_lawful : (s : Stack) (i : Instruction) (vs : List Val) → StandLawful s → instruction_of s.top ≡ Some i → SuitsHere s i vs → StandLawful (went_on s (Some i) vs)
+pub went_on_lawful : (s : Stack) (i : Instruction) (vs : List Val) → IsLawfulStack s → instruction_of s.top ≡ Some i → SuitsHere s i vs → IsLawfulStack (went_on s (Some i) vs)
 went_on_lawful s i vs stand is suits =
     let well = invocation_well (shapes_of s.values) s.top s.callers stand in
-    let count = length (code_in s.top.made) in
-    let rows = rows_in s.top.made in
+    let count = length (instructions_in s.top.made) in
+    let rows = program_rows_in s.top.made in
     let homes = s.top.frame.homes in
     let at = s.top.frame.at in
     let behind : at + 1 ≤ count = omega (arith, inside_next s.top i is) in
     let next : next_instruction (Some i) vs at ≤ count =
-    cond_both (is_taken vs) (unwrap_or (label_in i.args) (at + 1)) (at + 1) (λ n. n ≤ count) (λ taken. label_within count (at + 1) i.args behind (suited_next s i stand is).jumps) (λ on. behind) in
-    framed_lawful s (received i.op rows homes (classes i.op) i.args vs s.values) (record s.top.frame { at = next_instruction (Some i) vs at }) stand
+    cond_both (branch_is_taken vs) (unwrap_or (first_label_in i.args) (at + 1)) (at + 1) (λ n. n ≤ count) (λ taken. label_within count (at + 1) i.args behind (suited_next s i stand is).jumps) (λ on. behind) in
+    framed_lawful s (values_received i.op rows homes (classes i.op) i.args vs s.values) (record s.top.frame { at = next_instruction (Some i) vs at }) stand
     (received_shapes i.op rows homes (classes i.op) i.args vs s.values s.values refl suits) refl refl (record { at = next; returns = well.within.returns })
 
 -- the arguments of a transfer are parameters
@@ -196,14 +198,14 @@ ruled_parameters : (rows : List Row) (op : Op) (given : List Arg) → op ≡ Xct
 unfolding keeps_rule operand_rule
 ruled_parameters rows op given is ruled = rw is at ruled
 
-went_into_lawful : (s : Stack) (vs : List Val) (i : Instruction) (op : Op) (came : Option Program) → StandLawful s → instruction_of s.top ≡ Some i → i.op ≡ op
-    → SuitsInto s i vs op came → StandLawful (went_into s vs i op came)
+went_into_lawful : (s : Stack) (vs : List Val) (i : Instruction) (op : Op) (came : Option Program) → IsLawfulStack s → instruction_of s.top ≡ Some i → i.op ≡ op
+    → SuitsInto s i vs op came → IsLawfulStack (went_into s vs i op came)
 went_into_lawful s vs i Callx (Some program) stand is op suits =
-    cond_both (nat_lt (depth_of s) deepest) (entered s program) (went_on s (Some i) vs) StandLawful
+    cond_both (nat_lt (depth_of s) deepest) (with_call s program) (went_on s (Some i) vs) IsLawfulStack
     (λ few. entered_lawful s program stand (inside_next s.top i is) (rw is suits.0))
     (λ many. went_on_lawful s i vs stand is suits.1)
 went_into_lawful s vs i Xctl (Some program) stand is op suits =
-    let rows = rows_in s.top.made in
+    let rows = program_rows_in s.top.made in
     let parameters = ruled_parameters rows i.op i.args op (suited_next s i stand is).ruled in
     exchanged_lawful s program stand (ap (λ o. list_all (item_suits is_parameter rows) (arguments_in o)) is ∙ parameters) (rw is suits)
 went_into_lawful s vs i op came stand is at suits = went_on_lawful s i vs stand is suits
@@ -212,7 +214,7 @@ went_into_lawful s vs i op came stand is at suits = went_on_lawful s i vs stand 
 
 act_lawful : (d : ProcessState) (i : Instruction) (r : Reply) → IsLawful d → instruction_of d.stack.top ≡ Some i → SuitsReply d r → IsLawful (after_act d r)
 act_lawful d i (replies.Done vs) lawful is suits =
-    subst (λ o. SuitsBy d.stack o vs → StandLawful (went_by d.stack o vs)) (sym is) (λ suits. went_into_lawful d.stack vs i i.op (program_in vs) lawful is refl suits) suits
+    subst (λ o. SuitsBy d.stack o vs → IsLawfulStack (went_by d.stack o vs)) (sym is) (λ suits. went_into_lawful d.stack vs i i.op (program_returned vs) lawful is refl suits) suits
 act_lawful d i (replies.Signal x) lawful is suits = offered_lawful x.id d.stack lawful
 act_lawful d i replies.MustWait lawful is suits = lawful
 
@@ -242,19 +244,19 @@ asked_lawful d Running r lawful suits =
 asked_lawful d (Ending cause) r lawful suits = finish_lawful d cause r lawful
 asked_lawful d Ended r lawful suits = lawful
 
--- behind a reply that suits what it asked
+-- after a reply that suits what it asked
 pub absorbed_lawful : (d : ProcessState) (r : Reply) → IsLawful d → SuitsReply d r → IsLawful (absorbed d r)
 unfolding absorbed event_of
 absorbed_lawful d r lawful suits = settled_lawful (after_asked d (event_of d) r) (asked_lawful d d.status r lawful suits)
 
 -- so it stays where memory was refused
 pub answered_lawful : {A E : Type 0} (d p e : ProcessState) (r : Reply) (result : Result A E) → p ≡ d → OnOk result (e ≡ after_asked p (event_of p) r) → OnErr result (e ≡ p)
-    → IsLawful d → SuitsReply d r → IsLawful (settled e)
+    → IsLawful d → SuitsReply d r → IsLawful (after_local_run e)
 unfolding event_of
 answered_lawful d p e r (Ok done) same ok err lawful suits = settled_lawful e (subst IsLawful (sym (rw same at ok)) (asked_lawful d d.status r lawful suits))
 answered_lawful d p e r (Err fault) same ok err lawful suits = settled_lawful e (subst IsLawful (sym (err ∙ same)) lawful)
 
 -- ---- its beginning
 
-pub begun_lawful : (p : ProcessState) (made : CreateResult) (budget : ℕ) → p ≡ fresh made budget → AreSuited (rows_in made) (code_in made) → IsLawful (settled p)
+pub begun_lawful : (p : ProcessState) (made : CreateResult) (budget : ℕ) → p ≡ fresh made budget → AreSuited (program_rows_in made) (instructions_in made) → IsLawful (after_local_run p)
 begun_lawful p made budget is suited = settled_lawful p (subst IsLawful (sym is) (first_lawful made suited))

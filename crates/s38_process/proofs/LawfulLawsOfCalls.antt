@@ -13,7 +13,8 @@ use Rattle.std.specs.Prelude.{Option, Some, None, IsTrue, slice_get, nat_lt, unw
 use Rattle.std.specs.List.{list_all, range_with_len}
 use Rattle.s38_base.specs.declared.attr.Attr.{Attr}
 use Rattle.s38_base.specs.declared.attr.Attr.TheVariants.{Packed, Zoned, Binary, Chars, Pointer}
-use Rattle.s38_base.specs.Scalar.{are_digits, bits_of, digit_at, fits, image_of, is_bounded, length_of, packed_byte, zoned_byte}
+use Rattle.s38_base.specs.Scalar.{bits_of, digit_at, fits, packed_byte, scalar_image, zoned_byte}
+use Rattle.s38_base.specs.Attributes.{are_digit_counts, is_bounded, length_of}
 use Rattle.s38_code.specs.declared.made.CreateResult.{CreateResult}
 use Rattle.s38_code.specs.declared.made.CreateResult.TheVariants.{Created}
 use Rattle.s38_code.specs.declared.program.Arg.{Arg}
@@ -23,17 +24,17 @@ use Rattle.s38_code.specs.declared.program.Form.TheVariants.{Local, Parm, Based,
 use Rattle.s38_code.specs.declared.program.Program.{Program}
 use Rattle.s38_code.specs.declared.program.Row.{Row}
 use Rattle.s38_code.specs.declared.reply.Val.{Val}
-use Rattle.s38_local.specs.Law.{Holds, Shape, shape_at, shape_for, shape_of, shapes_of}
+use Rattle.s38_local.specs.Law.{HasShape, Shape, shape_at, shape_for, shape_of, shapes_of}
 use Rattle.s38_local.specs.Law.Shape.{OfBytes}
-use Rattle.s38_local.specs.Variables.{place_of}
+use Rattle.s38_local.specs.Variables.{item_place}
 use Rattle.s38_odt.specs.First.{units_held}
 use Rattle.s38_odt.specs.Formed.{IsForm, IsVariable}
 use Rattle.s38_odt.specs.Suited.{AreSuited}
 use Rattle.s38_odt.specs.Suits.{form_suits, item_suits}
 use Rattle.s38_odt.specs.Table.{is_parameter, parameter_count}
 use Rattle.s38_process.specs.declared.invocation.Invocation.{Invocation}
-use Rattle.s38_process.specs.Invocations.{Stack, argument_places, arguments_in, behind_call, blank_bytes, blank_values, code_in, entered, exchanged, first_by, first_frame, first_stack, first_value, first_values, home_for, homes_from, instruction_of, invoked, lent, places_for, popped, popped_to, rows_in, with_blank}
-use Rattle.s38_process.specs.Lawful.{IsLent, IsPassed, StandFrom, StandLawful, StandsWell, SuitsCall}
+use Rattle.s38_process.specs.Invocations.{Stack, after_call, argument_places, arguments_in, blank_bytes, blank_values, exchanged, first_frame, first_stack, first_value, first_values, home_for, homes_from, initial_value, instruction_of, instructions_in, invoked, lent, places_for, popped, popped_to, program_rows_in, with_blank_value, with_call}
+use Rattle.s38_process.specs.Lawful.{AreLawfulFrom, IsLawfulInvocation, IsLawfulStack, IsLent, IsPassed, SuitsCall}
 use Rattle.s38_process.proofs.LawfulLawsOfLists.{get_left, get_right, get_within, get_number, both_true, take_again}
 
 -- ---- where names lie
@@ -60,17 +61,17 @@ first_at [] k row h = cc
 first_at (r ∷ rows) zero row h = let same : r ≡ row = cc in ap (λ (r : Row). Some (shape_of (first_value r.form))) same
 first_at (r ∷ rows) (suc k) row h = first_at rows k row h
 
-first_shape : (attr : Attr) (first : List ℕ) → IsVariable attr first → shape_of (first_by attr first) ≡ shape_for attr
+first_shape : (attr : Attr) (first : List ℕ) → IsVariable attr first → shape_of (initial_value attr first) ≡ shape_for attr
 first_shape (Packed digits fraction) first v = ap OfBytes v.begun
 first_shape (Zoned digits fraction) first v = ap OfBytes v.begun
 first_shape (Binary size) first v = ap OfBytes v.begun
 first_shape (Chars len) first v = ap OfBytes v.begun
 first_shape Pointer first v = refl
 
--- ---- an invocation that begins behind these variables
+-- ---- an invocation that begins after these variables
 
 held_by : (before firsts : List Shape) (base : ℕ) (places : List ℕ) (count : ℕ) (rows : List Row) (k : ℕ) (form : Form) → base ≡ length before → IsForm count rows form → IsPassed before places form
-    → slice_get firsts k ≡ Some (shape_of (first_value form)) → Holds form (shape_at (before ++ firsts) (Some (home_for base places (base + k) form)))
+    → slice_get firsts k ≡ Some (shape_of (first_value form)) → HasShape form (shape_at (before ++ firsts) (Some (home_for base places (base + k) form)))
 held_by before firsts base places count rows k (Local attr first) begins formed passed there =
     get_right before firsts (base + k) k (omega arith) ∙ there ∙ ap Some (first_shape attr first formed)
 held_by before firsts base places count rows k (Parm n attr) begins formed passed there =
@@ -92,18 +93,18 @@ lent_by before base places own (Handler code at) begins passed = tt
 abbrev ArePassed : List Shape → List ℕ → List Row → Type 0
 ArePassed before places rows = (k : ℕ) (row : Row) → slice_get rows k ≡ Some row → IsPassed before places row.form
 
-begins_well : (made : CreateResult) (before : List Shape) (base : ℕ) (places : List ℕ) → AreSuited (rows_in made) (code_in made) → base ≡ length before → ArePassed before places (rows_in made)
-    → StandsWell (before ++ shapes_of (first_values (rows_in made))) (record { made = made; frame = first_frame (rows_in made) base places })
+begins_well : (made : CreateResult) (before : List Shape) (base : ℕ) (places : List ℕ) → AreSuited (program_rows_in made) (instructions_in made) → base ≡ length before → ArePassed before places (program_rows_in made)
+    → IsLawfulInvocation (before ++ shapes_of (first_values (program_rows_in made))) (record { made = made; frame = first_frame (program_rows_in made) base places })
 begins_well made before base places suited begins passed =
-    let rows = rows_in made in
+    let rows = program_rows_in made in
     let firsts = shapes_of (first_values rows) in
     record {
       program = suited;
-      within = record { at = omega arith; returns = All-nil (λ at. at ≤ length (code_in made)) };
+      within = record { at = omega arith; returns = All-nil (λ at. at ≤ length (instructions_in made)) };
       held = record {
         each = λ k row is.
             rw (home_at base places base rows k (base + k) row is refl)
-            (held_by before firsts base places (length (code_in made)) (take k rows) k row.form begins (suited.formed.each k row is) (passed k row is) (first_at rows k row is));
+            (held_by before firsts base places (length (instructions_in made)) (take k rows) k row.form begins (suited.formed.each k row is) (passed k row is) (first_at rows k row is));
       };
       lent = λ k row is. rw (home_at base places base rows k (base + k) row is refl) (lent_by before base places (base + k) row.form begins (passed k row is));
       base = omega (arith, length-append before firsts);
@@ -111,16 +112,16 @@ begins_well made before base places suited begins passed =
 
 -- ---- a call
 
-pub invocation_well : (shapes : List Shape) (top : Invocation) (callers : List Invocation) → StandFrom shapes top callers → StandsWell shapes top
+pub invocation_well : (shapes : List Shape) (top : Invocation) (callers : List Invocation) → AreLawfulFrom shapes top callers → IsLawfulInvocation shapes top
 invocation_well shapes top [] stand = stand
 invocation_well shapes top (caller ∷ more) stand = stand.0
 
--- the newest invocation stands elsewhere
-pub stands_again : (shapes : List Shape) (top again : Invocation) (callers : List Invocation) → StandFrom shapes top callers → again.frame.base ≡ top.frame.base → StandsWell shapes again → StandFrom shapes again callers
-stands_again shapes top again [] stand same well = well
-stands_again shapes top again (caller ∷ more) stand same well = (well, rw same stand.1)
+-- the newest invocation is at another place
+pub lawful_at_frame : (shapes : List Shape) (top again : Invocation) (callers : List Invocation) → AreLawfulFrom shapes top callers → again.frame.base ≡ top.frame.base → IsLawfulInvocation shapes again → AreLawfulFrom shapes again callers
+lawful_at_frame shapes top again [] stand same well = well
+lawful_at_frame shapes top again (caller ∷ more) stand same well = (well, rw same stand.1)
 
-behind_well : (shapes : List Shape) (caller : Invocation) → caller.frame.at < length (code_in caller.made) → StandsWell shapes caller → StandsWell shapes (behind_call caller)
+behind_well : (shapes : List Shape) (caller : Invocation) → caller.frame.at < length (instructions_in caller.made) → IsLawfulInvocation shapes caller → IsLawfulInvocation shapes (after_call caller)
 behind_well shapes caller inside well = record {
   program = well.program;
   within = record { at = omega arith; returns = well.within.returns };
@@ -129,13 +130,13 @@ behind_well shapes caller inside well = record {
   base = well.base;
 }
 
-pub entered_lawful : (s : Stack) (program : Program) → StandLawful s → s.top.frame.at < length (code_in s.top.made) → SuitsCall s (arguments_in (instruction_of s.top)) program → StandLawful (entered s program)
+pub entered_lawful : (s : Stack) (program : Program) → IsLawfulStack s → s.top.frame.at < length (instructions_in s.top.made) → SuitsCall s (arguments_in (instruction_of s.top)) program → IsLawfulStack (with_call s program)
 entered_lawful s program stand inside suits =
     let base = length s.values in
     let shapes = shapes_of s.values in
     let count : base ≡ length shapes = sym (length-map s.values shape_of) in
     let well = begins_well (Created program) shapes base (places_for s.top base) suits.suited count suits.passed in
-    let caller = stands_again shapes s.top (behind_call s.top) s.callers stand refl (behind_well shapes s.top inside (invocation_well shapes s.top s.callers stand)) in
+    let caller = lawful_at_frame shapes s.top (after_call s.top) s.callers stand refl (behind_well shapes s.top inside (invocation_well shapes s.top s.callers stand)) in
     let before : take base (shapes ++ shapes_of (first_values program.rows)) ≡ shapes =
     ap (λ n. take n (shapes ++ shapes_of (first_values program.rows))) count ∙ take-append_seam shapes (shapes_of (first_values program.rows)) in
     rw (map-append shape_of s.values (first_values program.rows)) (well, rw before caller)
@@ -147,7 +148,7 @@ AreLent base rows homes = (k : ℕ) (row : Row) → slice_get rows k ≡ Some ro
 
 -- an argument that lies the same wherever else it would lie, and below the base
 abbrev IsBelow : List ℕ → ℕ → ℕ → Arg → Type 0
-IsBelow homes base far arg = (unwrap_or (place_of homes (Some arg)) far ≡ unwrap_or (place_of homes (Some arg)) base) × (unwrap_or (place_of homes (Some arg)) base < base)
+IsBelow homes base far arg = (unwrap_or (item_place homes (Some arg)) far ≡ unwrap_or (item_place homes (Some arg)) base) × (unwrap_or (item_place homes (Some arg)) base < base)
 
 -- a parameter lies below the base, so that it is found whatever else lies nowhere
 parameter_below : (homes : List ℕ) (base far i : ℕ) (form : Form) → IsLent base form (slice_get homes i) → is_parameter form ≡ true → IsBelow homes base far (Item i)
@@ -170,8 +171,8 @@ passed_on : (rows : List Row) (homes : List ℕ) (base far : ℕ) → AreLent ba
 passed_on rows homes base far lent [] j place suits is = cc
 passed_on rows homes base far lent (arg ∷ more) zero place suits is =
     let there = argument_below rows homes base far arg lent (both_true (item_suits is_parameter rows arg) (list_all (item_suits is_parameter rows) more) suits).0 in
-    let same : unwrap_or (place_of homes (Some arg)) far ≡ place = cc in
-    let here : unwrap_or (place_of homes (Some arg)) base ≡ place = cc in
+    let same : unwrap_or (item_place homes (Some arg)) far ≡ place = cc in
+    let here : unwrap_or (item_place homes (Some arg)) base ≡ place = cc in
     (ap Some here, subst (λ n. n < base) here there.1)
 passed_on rows homes base far lent (arg ∷ more) (suc j) place suits is = passed_on rows homes base far lent more j place (both_true (item_suits is_parameter rows arg) (list_all (item_suits is_parameter rows) more) suits).1 is
 
@@ -186,8 +187,8 @@ passed_below rows homes base far shapes lent arguments suits (Based at offset at
 passed_below rows homes base far shapes lent arguments suits (Handler code at) passed = tt
 
 -- an invocation in place of another
-stands_instead : (shapes firsts : List Shape) (top again : Invocation) (callers : List Invocation) → StandFrom shapes top callers → again.frame.base ≡ top.frame.base → top.frame.base ≤ length shapes
-    → StandsWell (take top.frame.base shapes ++ firsts) again → StandFrom (take top.frame.base shapes ++ firsts) again callers
+stands_instead : (shapes firsts : List Shape) (top again : Invocation) (callers : List Invocation) → AreLawfulFrom shapes top callers → again.frame.base ≡ top.frame.base → top.frame.base ≤ length shapes
+    → IsLawfulInvocation (take top.frame.base shapes ++ firsts) again → AreLawfulFrom (take top.frame.base shapes ++ firsts) again callers
 stands_instead shapes firsts top again [] stand same base well = well
 stands_instead shapes firsts top again (caller ∷ more) stand same base well =
     let n = top.frame.base in
@@ -196,8 +197,8 @@ stands_instead shapes firsts top again (caller ∷ more) stand same base well =
     (well, rw (same, before) stand.1)
 
 -- the arguments of a transfer are parameters, which lie where the callers' variables are
-pub exchanged_lawful : (s : Stack) (program : Program) → StandLawful s → list_all (item_suits is_parameter (rows_in s.top.made)) (arguments_in (instruction_of s.top)) ≡ true
-    → SuitsCall s (arguments_in (instruction_of s.top)) program → StandLawful (exchanged s program)
+pub exchanged_lawful : (s : Stack) (program : Program) → IsLawfulStack s → list_all (item_suits is_parameter (program_rows_in s.top.made)) (arguments_in (instruction_of s.top)) ≡ true
+    → SuitsCall s (arguments_in (instruction_of s.top)) program → IsLawfulStack (exchanged s program)
 exchanged_lawful s program stand parameters suits =
     let base = s.top.frame.base in
     let shapes = shapes_of s.values in
@@ -205,7 +206,7 @@ exchanged_lawful s program stand parameters suits =
     let old = invocation_well shapes s.top s.callers stand in
     let count : base ≡ length (take base shapes) = sym (length-take-le base shapes old.base) in
     let passed = λ (k : ℕ) (row : Row) (is : slice_get program.rows k ≡ Some row).
-    passed_below (rows_in s.top.made) s.top.frame.homes base (length s.values) shapes old.lent (arguments_in (instruction_of s.top)) parameters row.form (suits.passed k row is) in
+    passed_below (program_rows_in s.top.made) s.top.frame.homes base (length s.values) shapes old.lent (arguments_in (instruction_of s.top)) parameters row.form (suits.passed k row is) in
     let well = begins_well (Created program) (take base shapes) base (places_for s.top base) suits.suited count passed in
     let made : shapes_of (take base s.values ++ first_values program.rows) ≡ take base shapes ++ firsts =
     map-append shape_of (take base s.values) (first_values program.rows) ∙ ap (λ xs. xs ++ firsts) (sym (take-map shape_of base s.values)) in
@@ -213,11 +214,11 @@ exchanged_lawful s program stand parameters suits =
 
 -- ---- an end
 
-popped_to_lawful : (s : Stack) (callers : List Invocation) → StandFrom (shapes_of s.values) s.top callers → StandLawful s → StandLawful (popped_to s callers)
+popped_to_lawful : (s : Stack) (callers : List Invocation) → AreLawfulFrom (shapes_of s.values) s.top callers → IsLawfulStack s → IsLawfulStack (popped_to s callers)
 popped_to_lawful s [] stand all = all
 popped_to_lawful s (caller ∷ more) stand all = rw (← take-map shape_of s.top.frame.base s.values) stand.1
 
-pub popped_lawful : (s : Stack) → StandLawful s → StandLawful (popped s)
+pub popped_lawful : (s : Stack) → IsLawfulStack s → IsLawfulStack (popped s)
 popped_lawful s stand = popped_to_lawful s s.callers stand stand
 
 -- ---- the first invocation of a job
@@ -225,22 +226,22 @@ popped_lawful s stand = popped_to_lawful s s.callers stand stand
 some_power : (base n : ℕ) → 0 < base → nat_lt 0 (base ^ n) ≡ true
 some_power base n some = let least : 1 ≤ base ^ n = one-le-pow n base some in grind (arith, nat_tests)
 
-held_length : (attr : Attr) → fits attr (pos 0) ≡ true → length (image_of attr (pos 0)) ≡ length_of attr → length (unwrap_or (units_held attr (pos 0)) []) ≡ length_of attr
+held_length : (attr : Attr) → fits attr (pos 0) ≡ true → length (scalar_image attr (pos 0)) ≡ length_of attr → length (unwrap_or (units_held attr (pos 0)) []) ≡ length_of attr
 held_length attr fit is = rw fit is
 
 -- a variable without a literal
-blank_shape : (attr : Attr) → IsTrue (is_bounded attr) → shape_of (first_by attr (blank_bytes attr)) ≡ shape_for attr
-unfolding fits image_of
+blank_shape : (attr : Attr) → IsTrue (is_bounded attr) → shape_of (initial_value attr (blank_bytes attr)) ≡ shape_for attr
+unfolding fits scalar_image
 blank_shape (Packed digits fraction) bounded =
-    ap OfBytes (held_length (Packed digits fraction) (and_from (are_digits digits fraction) (nat_lt 0 (10 ^ digits)) bounded (some_power 10 digits (omega arith))) (length-map-range_with_len (packed_byte (digits / 2) (pos 0)) 0 (digits / 2 + 1)))
+    ap OfBytes (held_length (Packed digits fraction) (and_from (are_digit_counts digits fraction) (nat_lt 0 (10 ^ digits)) bounded (some_power 10 digits (omega arith))) (length-map-range_with_len (packed_byte (digits / 2) (pos 0)) 0 (digits / 2 + 1)))
 blank_shape (Zoned digits fraction) bounded =
-    ap OfBytes (held_length (Zoned digits fraction) (and_from (are_digits digits fraction) (nat_lt 0 (10 ^ digits)) bounded (some_power 10 digits (omega arith))) (length-map-range_with_len (zoned_byte digits (pos 0)) 0 digits))
+    ap OfBytes (held_length (Zoned digits fraction) (and_from (are_digit_counts digits fraction) (nat_lt 0 (10 ^ digits)) bounded (some_power 10 digits (omega arith))) (length-map-range_with_len (zoned_byte digits (pos 0)) 0 digits))
 blank_shape (Binary size) bounded =
     ap OfBytes (held_length (Binary size) (and_from ((size == 2) || (size == 4)) (nat_lt 0 (2 ^ (8 * size - 1))) bounded (some_power 2 (8 * size - 1) (omega arith))) (length-map-range_with_len (λ k. digit_at 256 (bits_of size (pos 0)) (size - 1 - k)) 0 size))
 blank_shape (Chars len) bounded = ap OfBytes (length-replicate len 64)
 blank_shape Pointer bounded = refl
 
-behind_blank : (form : Form) (more : List Val) (c : ℕ) (shape : Shape) → slice_get (shapes_of more) c ≡ Some shape → slice_get (shapes_of (with_blank form more)) ((if is_parameter form then 1 else 0) + c) ≡ Some shape
+behind_blank : (form : Form) (more : List Val) (c : ℕ) (shape : Shape) → slice_get (shapes_of more) c ≡ Some shape → slice_get (shapes_of (with_blank_value form more)) ((if is_parameter form then 1 else 0) + c) ≡ Some shape
 behind_blank (Parm k attr) more c shape h = let next : 1 + c ≡ suc c = omega arith in rw next h
 behind_blank (Local attr first) more c shape h = let same : 0 + c ≡ c = omega arith in rw same h
 behind_blank (Based at offset attr) more c shape h = let same : 0 + c ≡ c = omega arith in rw same h
@@ -269,10 +270,10 @@ given_by rows count k row (Local attr first) h is formed = tt
 given_by rows count k row (Based at offset attr) h is formed = tt
 given_by rows count k row (Handler code at) h is formed = tt
 
-pub first_lawful : (made : CreateResult) → AreSuited (rows_in made) (code_in made) → StandLawful (first_stack made)
+pub first_lawful : (made : CreateResult) → AreSuited (program_rows_in made) (instructions_in made) → IsLawfulStack (first_stack made)
 first_lawful made suited =
-    let rows = rows_in made in
+    let rows = program_rows_in made in
     let given = blank_values rows in
     let count : length given ≡ length (shapes_of given) = sym (length-map given shape_of) in
-    let passed = λ (k : ℕ) (row : Row) (is : slice_get rows k ≡ Some row). given_by rows (length (code_in made)) k row row.form is refl (suited.formed.each k row is) in
+    let passed = λ (k : ℕ) (row : Row) (is : slice_get rows k ≡ Some row). given_by rows (length (instructions_in made)) k row row.form is refl (suited.formed.each k row is) in
     rw (map-append shape_of given (first_values rows)) (begins_well made (shapes_of given) (length given) (range_with_len 0 (length given)) suited count passed)

@@ -13,9 +13,9 @@ use Rattle.s38_local.specs.Law.{shape_of, shapes_of}
 use Rattle.s38_odt.specs.Formed.{IsForm}
 use Rattle.s38_process.specs.declared.invocation.Invocation.{Invocation}
 use Rattle.s38_process.specs.Exceptions.{Offered, label_by, label_for, names, offered, offered_from, or_else, taken_by, takes}
-use Rattle.s38_process.specs.Invocations.{Stack, code_in, rows_in}
-use Rattle.s38_process.specs.Lawful.{StandFrom, StandLawful}
-use Rattle.s38_process.proofs.LawfulLawsOfCalls.{invocation_well, stands_again}
+use Rattle.s38_process.specs.Invocations.{Stack, instructions_in, program_rows_in}
+use Rattle.s38_process.specs.Lawful.{AreLawfulFrom, IsLawfulStack}
+use Rattle.s38_process.proofs.LawfulLawsOfCalls.{invocation_well, lawful_at_frame}
 
 -- ---- labels
 
@@ -41,12 +41,12 @@ label_within count (row ∷ rows) (b ∷ more) code at each is =
 
 -- ---- who takes it
 
-takes_lawful : (s : Stack) (code at : ℕ) → StandLawful s → label_by s.top code ≡ Some at → StandLawful (record s { top = takes s.top code at })
+takes_lawful : (s : Stack) (code at : ℕ) → IsLawfulStack s → label_by s.top code ≡ Some at → IsLawfulStack (record s { top = takes s.top code at })
 takes_lawful s code at stand is =
     let well = invocation_well (shapes_of s.values) s.top s.callers stand in
-    let count = length (code_in s.top.made) in
-    let rows = rows_in s.top.made in
-    stands_again (shapes_of s.values) s.top (takes s.top code at) s.callers stand refl (record {
+    let count = length (instructions_in s.top.made) in
+    let rows = program_rows_in s.top.made in
+    lawful_at_frame (shapes_of s.values) s.top (takes s.top code at) s.callers stand refl (record {
       program = well.program;
       within = record {
         at = label_within count rows s.top.frame.on code at (λ k row h. (take k rows, well.program.formed.each k row h)) is;
@@ -57,11 +57,11 @@ takes_lawful s code at stand is =
       base = well.base;
     })
 
-or_else_lawful : (code : ℕ) (s : Stack) (o : Option ℕ) (next : Offered) → StandLawful s → label_by s.top code ≡ o → StandLawful next.stack → StandLawful (or_else code s o next).stack
+or_else_lawful : (code : ℕ) (s : Stack) (o : Option ℕ) (next : Offered) → IsLawfulStack s → label_by s.top code ≡ o → IsLawfulStack next.stack → IsLawfulStack (or_else code s o next).stack
 or_else_lawful code s None next stand is further = further
 or_else_lawful code s (Some at) next stand is further = takes_lawful s code at stand is
 
-offered_from_lawful : (code : ℕ) (values : List Val) (top : Invocation) (callers : List Invocation) → StandFrom (shapes_of values) top callers → StandLawful (offered_from code values top callers).stack
+offered_from_lawful : (code : ℕ) (values : List Val) (top : Invocation) (callers : List Invocation) → AreLawfulFrom (shapes_of values) top callers → IsLawfulStack (offered_from code values top callers).stack
 offered_from_lawful code values top [] stand =
     let s : Stack = record { values = values; top = top; callers = [] } in
     or_else_lawful code s (label_by top code) (record { stack = s; taken = false }) stand refl stand
@@ -70,6 +70,6 @@ offered_from_lawful code values top (caller ∷ more) stand =
     or_else_lawful code s (label_by top code) (offered_from code (take top.frame.base values) caller more) stand refl
     (offered_from_lawful code (take top.frame.base values) caller more (rw (← take-map shape_of top.frame.base values) stand.1))
 
--- the invocations that are left stand as they have to
-pub offered_lawful : (code : ℕ) (s : Stack) → StandLawful s → StandLawful (offered code s).stack
+-- the invocations that are left are as they have to be
+pub offered_lawful : (code : ℕ) (s : Stack) → IsLawfulStack s → IsLawfulStack (offered code s).stack
 offered_lawful code s stand = offered_from_lawful code s.values s.top s.callers stand

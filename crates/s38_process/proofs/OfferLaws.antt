@@ -4,7 +4,7 @@ use Rattle.std.specs.Prelude.{Some, None}
 use Rattle.s38_process.specs.declared.invocation.Invocation.{Invocation}
 use Rattle.s38_process.specs.Exceptions.{label_by, offered, offered_from, takes}
 use Rattle.s38_process.specs.Invocations.{Stack, popped, popped_to}
-use Rattle.s38_process.specs.Process.{is_none}
+use Rattle.s38_process.specs.LocalRun.{is_none}
 
 by_callers : (code : ℕ) (s : Stack) (callers : List Invocation) (at : ℕ) → s.callers ≡ callers → label_by s.top code ≡ Some at
     → offered_from code s.values s.top callers ≡ record { stack = record s { top = takes s.top code at }; taken = true }

@@ -11,8 +11,8 @@ use Rattle.s38_code.specs.declared.program.Form.{Form}
 use Rattle.s38_code.specs.declared.program.Program.{Program}
 use Rattle.s38_code.specs.declared.program.Row.{Row}
 use Rattle.s38_code.specs.declared.reply.Val.{Val}
-use Rattle.s38_local.specs.Variables.{place_of, put_at, value_at}
-use Rattle.s38_process.specs.Invocations.{IsPassedFor, Stack, argument_places, arguments_in, behind_call, entered, first_values, home_for, homes_from, instruction_of, lent, places_for, popped, read_at, written_at}
+use Rattle.s38_local.specs.Variables.{item_place, value_at, value_put_at}
+use Rattle.s38_process.specs.Invocations.{IsPassedFor, Stack, after_call, argument_places, arguments_in, first_values, home_for, homes_from, instruction_of, lent, places_for, popped, read_at, with_call, written_at}
 
 home_at : (base : ℕ) (places : List ℕ) (own : ℕ) (rows : List Row) (k : ℕ) (row : Row) → slice_get rows k ≡ Some row → slice_get (homes_from base places own rows) k ≡ Some (home_for base places (own + k) row.form)
 home_at base places own [] k row h = cc
@@ -27,12 +27,12 @@ lent_below base place own below = let test : nat_lt place base ≡ true = grind 
 
 passed_place : (homes : List ℕ) (base : ℕ) (given : List Arg) (k item place : ℕ) → slice_get given k ≡ Some (args.Item item) → slice_get homes item ≡ Some place → slice_get (argument_places homes base given) k ≡ Some place
 passed_place homes base given k item place h lies =
-    slice_get-map (λ argument. unwrap_or (place_of homes (Some argument)) base) given k
-    ∙ ap (option_map (λ argument. unwrap_or (place_of homes (Some argument)) base)) h
+    slice_get-map (λ argument. unwrap_or (item_place homes (Some argument)) base) given k
+    ∙ ap (option_map (λ argument. unwrap_or (item_place homes (Some argument)) base)) h
     ∙ ap (λ o. Some (unwrap_or o base)) lies
 
 -- a parameter lies where the item lies that the caller passes
-pub parameter_home : (s : Stack) (program : Program) (row place : ℕ) → IsPassedFor s program row place → slice_get (entered s program).top.frame.homes row ≡ Some place
+pub parameter_home : (s : Stack) (program : Program) (row place : ℕ) → IsPassedFor s program row place → slice_get (with_call s program).top.frame.homes row ≡ Some place
 parameter_home s program row place is =
     let base = length s.values in
     let places = places_for s.top base in
@@ -56,8 +56,8 @@ set_length [] i v = refl
 set_length (x ∷ xs) zero v = refl
 set_length (x ∷ xs) (suc i) v = ap suc (set_length xs i v)
 
--- what is read at the parameter stands at the caller's item
-pub reads_the_argument : (s : Stack) (program : Program) (row place : ℕ) → IsPassedFor s program row place → read_at (entered s program) row ≡ slice_get s.values place
+-- what is read at the parameter is at the caller's item
+pub reads_the_argument : (s : Stack) (program : Program) (row place : ℕ) → IsPassedFor s program row place → read_at (with_call s program) row ≡ slice_get s.values place
 reads_the_argument s program row place is =
     ap (value_at (s.values ++ first_values program.rows)) (parameter_home s program row place is)
     ∙ get_left s.values (first_values program.rows) place is.there
@@ -65,12 +65,12 @@ reads_the_argument s program row place is =
 cut_back : (xs ys : List Val) (n : ℕ) → length xs ≡ n → take n (xs ++ ys) ≡ xs
 cut_back xs ys n is = ap (λ k. take k (xs ++ ys)) (sym is) ∙ take-append_seam xs ys
 
--- what is written to the parameter stands at the caller's item once the program has returned
+-- what is written to the parameter is at the caller's item once the program has returned
 pub writes_the_argument : (s : Stack) (program : Program) (row place : ℕ) (v : Val) → IsPassedFor s program row place
-    → popped (written_at (entered s program) row v) ≡ record { values = slice_set s.values place v; top = behind_call s.top; callers = s.callers }
+    → popped (written_at (with_call s program) row v) ≡ record { values = slice_set s.values place v; top = after_call s.top; callers = s.callers }
 writes_the_argument s program row place v is =
     let more = first_values program.rows in
-    let put : put_at (s.values ++ more) (slice_get (entered s program).top.frame.homes row) v ≡ slice_set s.values place v ++ more =
-    ap (λ o. put_at (s.values ++ more) o v) (parameter_home s program row place is) ∙ set_left s.values more place v is.there in
-    ap (λ (values : List Val). record { values = values; top = behind_call s.top; callers = s.callers })
+    let put : value_put_at (s.values ++ more) (slice_get (with_call s program).top.frame.homes row) v ≡ slice_set s.values place v ++ more =
+    ap (λ o. value_put_at (s.values ++ more) o v) (parameter_home s program row place is) ∙ set_left s.values more place v is.there in
+    ap (λ (values : List Val). record { values = values; top = after_call s.top; callers = s.callers })
     (ap (take (length s.values)) put ∙ cut_back (slice_set s.values place v) more (length s.values) (set_length s.values place v))

@@ -8,7 +8,7 @@ use Rattle.s38_code.specs.declared.program.Row.{Row}
 use Rattle.s38_code.specs.declared.reply.Val.{Val}
 use Rattle.s38_local.specs.declared.frame.Frame.{Frame}
 use Rattle.s38_process.specs.declared.invocation.Invocation.{Invocation}
-use Rattle.s38_process.specs.Invocations.{Stack, rows_in}
+use Rattle.s38_process.specs.Invocations.{Stack, program_rows_in}
 
 -- one code, or each
 abbrev pub names : Option ℕ → ℕ → Bool
@@ -17,7 +17,7 @@ names (Some one) code = one == code
 
 -- where a description goes on, if it takes the exception
 abbrev pub taken_by : Form → Bool → ℕ → Option ℕ
-taken_by (forms.Handler taken at) on code = if on && names taken code then Some at else None
+taken_by (forms.Handler control_taken at) on code = if on && names control_taken code then Some at else None
 taken_by (forms.Local attr first) on code = None
 taken_by (forms.Parm k attr) on code = None
 taken_by (forms.Based base offset attr) on code = None
@@ -29,14 +29,14 @@ label_for (row ∷ rows) (on ∷ more) code = option_or (taken_by row.form on co
 
 -- where an invocation goes on, if it takes the exception
 abbrev pub label_by : Invocation → ℕ → Option ℕ
-label_by top code = label_for (rows_in top.made) top.frame.on code
+label_by top code = label_for (program_rows_in top.made) top.frame.on code
 
 -- control goes to the label, and the internal calls of the invocation end
-abbrev pub taken : Frame → ℕ → ℕ → Frame
-taken frame code at = record frame { at = at; returns = []; latest = code }
+abbrev pub control_taken : Frame → ℕ → ℕ → Frame
+control_taken frame code at = record frame { at = at; returns = []; latest = code }
 
 abbrev pub takes : Invocation → ℕ → ℕ → Invocation
-takes top code at = record top { frame = taken top.frame code at }
+takes top code at = record top { frame = control_taken top.frame code at }
 
 pub record Offered : Type 0 where
   -- the invocations that are left

@@ -1,4 +1,4 @@
--- The invocations of a process. Each has its program and its place, and its variables stand among those of all, behind
+-- The invocations of a process. Each has its program and its place, and its variables are among those of all, after
 -- those of its callers. A parameter is no variable of its own: it lies where the caller's argument does.
 use Rattle.std.specs.Prelude.{◌≡◌, ◌<◌, ℕ, ◌+◌, ◌-◌, true, List, [], ◌∷◌, ◌++◌, map, drop, length, take, replicate, Option, Some, None, unwrap_or, slice_get, nat_lt, if◌then◌else◌}
 use Rattle.std.specs.List.{range_with_len}
@@ -16,7 +16,7 @@ use Rattle.s38_code.specs.declared.program.Row.{Row}
 use Rattle.s38_code.specs.declared.reply.Val.{Val}
 use Rattle.s38_code.specs.declared.reply.Val.TheVariants as vals
 use Rattle.s38_local.specs.declared.frame.Frame.{Frame}
-use Rattle.s38_local.specs.Variables.{place_of, put_at, value_of_item}
+use Rattle.s38_local.specs.Variables.{item_place, value_of_item, value_put_at}
 use Rattle.s38_odt.specs.First.{blank_of}
 use Rattle.s38_process.specs.declared.invocation.Invocation.{Invocation}
 
@@ -38,28 +38,28 @@ deepest = 64
 
 -- ---- the program of an invocation; a template that was refused has none
 
-abbrev pub rows_in : CreateResult → List Row
-rows_in (Created program) = program.rows
-rows_in (Refused id number) = []
+abbrev pub program_rows_in : CreateResult → List Row
+program_rows_in (Created program) = program.rows
+program_rows_in (Refused id number) = []
 
-abbrev pub code_in : CreateResult → List Instruction
-code_in (Created program) = program.code
-code_in (Refused id number) = []
+abbrev pub instructions_in : CreateResult → List Instruction
+instructions_in (Created program) = program.code
+instructions_in (Refused id number) = []
 
 -- the instruction that comes next; none past the last
 abbrev pub instruction_of : Invocation → Option Instruction
-instruction_of top = slice_get (code_in top.made) top.frame.at
+instruction_of top = slice_get (instructions_in top.made) top.frame.at
 
 -- ---- what variables begin with
 
 -- a pointer variable begins with no pointer, another with its first bytes
-abbrev pub first_by : Attr → List ℕ → Val
-first_by attrs.Pointer first = vals.Ptr None
-first_by _ first = vals.Bytes first
+abbrev pub initial_value : Attr → List ℕ → Val
+initial_value attrs.Pointer first = vals.Ptr None
+initial_value _ first = vals.Bytes first
 
--- a name that stands for no variable of the invocation has a place that nothing uses
+-- a name that means no variable of the invocation has a place that nothing uses
 abbrev pub first_value : Form → Val
-first_value (forms.Local attr first) = first_by attr first
+first_value (forms.Local attr first) = initial_value attr first
 first_value (forms.Parm k attr) = vals.Ptr None
 first_value (forms.Based base offset attr) = vals.Ptr None
 first_value (forms.Handler code at) = vals.Ptr None
@@ -71,13 +71,13 @@ first_values rows = map (λ row. first_value row.form) rows
 abbrev pub blank_bytes : Attr → List ℕ
 blank_bytes attr = unwrap_or (blank_of attr) []
 
-abbrev pub with_blank : Form → List Val → List Val
-with_blank (forms.Parm k attr) more = first_by attr (blank_bytes attr) ∷ more
-with_blank _ more = more
+abbrev pub with_blank_value : Form → List Val → List Val
+with_blank_value (forms.Parm k attr) more = initial_value attr (blank_bytes attr) ∷ more
+with_blank_value _ more = more
 
 abbrev pub blank_values : List Row → List Val
 blank_values [] = []
-blank_values (row ∷ rows) = with_blank row.form (blank_values rows)
+blank_values (row ∷ rows) = with_blank_value row.form (blank_values rows)
 
 -- ---- where names lie
 
@@ -91,14 +91,14 @@ abbrev pub home_for : ℕ → List ℕ → ℕ → Form → ℕ
 home_for base places own (forms.Parm k attr) = lent base (slice_get places (k - 1)) own
 home_for base places own _ = own
 
--- each declared name has a place of its own behind the base, in order
+-- each declared name has its own place after the base, in order
 abbrev pub homes_from : ℕ → List ℕ → ℕ → List Row → List ℕ
 homes_from base places own [] = []
 homes_from base places own (row ∷ rows) = home_for base places own row.form ∷ homes_from base places (own + 1) rows
 
 -- the places of arguments; what is no item lies nowhere below the base
 abbrev pub argument_places : List ℕ → ℕ → List Arg → List ℕ
-argument_places homes base arguments = map (λ argument. unwrap_or (place_of homes (Some argument)) base) arguments
+argument_places homes base arguments = map (λ argument. unwrap_or (item_place homes (Some argument)) base) arguments
 
 -- an invocation begins with its first instruction, and each description of exceptions is on
 abbrev pub first_frame : List Row → ℕ → List ℕ → Frame
@@ -107,10 +107,10 @@ first_frame rows base places =
 
 -- ---- how invocations begin and end
 
--- the first invocation of a job, behind the variables that the job gives for parameters
+-- the first invocation of a job, after the variables that the job gives for parameters
 abbrev pub first_stack : CreateResult → Stack
 first_stack made =
-    let rows = rows_in made in
+    let rows = program_rows_in made in
     let given = blank_values rows in
     record {
       values = given ++ first_values rows;
@@ -121,11 +121,11 @@ first_stack made =
 abbrev pub invoked : Program → ℕ → List ℕ → Invocation
 invoked program base places = record { made = Created program; frame = first_frame program.rows base places }
 
--- a caller goes on behind its call
-abbrev pub behind_call : Invocation → Invocation
-behind_call caller = record caller { frame = record caller.frame { at = caller.frame.at + 1 } }
+-- a caller goes on after its call
+abbrev pub after_call : Invocation → Invocation
+after_call caller = record caller { frame = record caller.frame { at = caller.frame.at + 1 } }
 
--- the arguments of a call stand behind the program
+-- the arguments of a call come after the program
 abbrev pub arguments_in : Option Instruction → List Arg
 arguments_in None = []
 arguments_in (Some i) = drop 1 i.args
@@ -133,14 +133,14 @@ arguments_in (Some i) = drop 1 i.args
 abbrev pub places_for : Invocation → ℕ → List ℕ
 places_for caller base = argument_places caller.frame.homes base (arguments_in (instruction_of caller))
 
--- a program is called by the instruction at which the newest invocation stands
-abbrev pub entered : Stack → Program → Stack
-entered s program =
+-- a program is called by the next instruction of the newest invocation
+abbrev pub with_call : Stack → Program → Stack
+with_call s program =
     let base = length s.values in
     record {
       values = s.values ++ first_values program.rows;
       top = invoked program base (places_for s.top base);
-      callers = behind_call s.top ∷ s.callers;
+      callers = after_call s.top ∷ s.callers;
     }
 
 -- a program comes in place of the newest invocation, whose variables end
@@ -175,10 +175,10 @@ pub record IsPassedFor (s : Stack) (program : Program) (row place : ℕ) : Type 
   pub lies : slice_get s.top.frame.homes item ≡ Some place
   pub there : place < length s.values
 
--- what a name of the newest invocation stands for
+-- what a name of the newest invocation means
 abbrev pub read_at : Stack → ℕ → Option Val
 read_at s name = value_of_item s.top.frame.homes s.values name
 
 -- what is written there
 abbrev pub written_at : Stack → ℕ → Val → Stack
-written_at s name v = record s { values = put_at s.values (slice_get s.top.frame.homes name) v }
+written_at s name v = record s { values = value_put_at s.values (slice_get s.top.frame.homes name) v }

@@ -1,5 +1,5 @@
--- What a process keeps to, whatever its programs do: each of its invocations stands within its program, and each name
--- stands for a variable that holds what it declares. So no local instruction meets an operand of another class.
+-- What a process keeps to, whatever its programs do: each of its invocations is within its program, and each name
+-- means a variable that holds what it declares. So no local instruction meets an operand of another class.
 use Rattle.std.specs.Prelude.{◌≡◌, ◌<◌, ◌≤◌, ℕ, ◌-◌, Bool, true, false, List, [], ◌∷◌, length, slice_get, take, Option, Some, None}
 use Rattle.s38_base.specs.declared.op.Op.{Op}
 use Rattle.s38_base.specs.declared.op.Op.TheVariants.{Callx, Xctl}
@@ -14,12 +14,13 @@ use Rattle.s38_code.specs.declared.program.Row.{Row}
 use Rattle.s38_code.specs.declared.reply.Reply.{Reply}
 use Rattle.s38_code.specs.declared.reply.Reply.TheVariants as replies
 use Rattle.s38_code.specs.declared.reply.Val.{Val}
-use Rattle.s38_local.specs.Law.{AreHeld, IsWithin, Shape, shape_for, shape_of, shapes_of}
-use Rattle.s38_local.specs.Variables.{place_of}
+use Rattle.s38_local.specs.Law.{FrameIsInRange, HavePlaces, Shape, shape_for, shape_of, shapes_of}
+use Rattle.s38_local.specs.Variables.{item_place}
 use Rattle.s38_odt.specs.Suited.{AreSuited}
 use Rattle.s38_process.specs.declared.invocation.Invocation.{Invocation}
-use Rattle.s38_process.specs.Invocations.{Stack, argument_places, arguments_in, code_in, instruction_of, rows_in}
-use Rattle.s38_process.specs.Process.{ProcessState, program_in}
+use Rattle.s38_process.specs.Invocations.{Stack, argument_places, arguments_in, instruction_of, instructions_in, program_rows_in}
+use Rattle.s38_process.specs.Process.{ProcessState}
+use Rattle.s38_process.specs.AfterReply.{program_returned}
 use Rattle.s38_process.specs.Replies.{merged, takes_value}
 
 -- ---- invocations
@@ -30,23 +31,23 @@ IsLent base (forms.Parm k attr) home = (place : ℕ) × ((home ≡ Some place) �
 IsLent base _ home = Unit {0}
 
 -- an invocation among variables of these shapes, which are its callers' and its own
-pub record StandsWell (shapes : List Shape) (top : Invocation) : Type 0 where
-  pub program : AreSuited (rows_in top.made) (code_in top.made)
-  pub within : IsWithin (length (code_in top.made)) top.frame
-  pub held : AreHeld (rows_in top.made) top.frame.homes shapes
-  pub lent : (k : ℕ) (row : Row) → slice_get (rows_in top.made) k ≡ Some row → IsLent top.frame.base row.form (slice_get top.frame.homes k)
+pub record IsLawfulInvocation (shapes : List Shape) (top : Invocation) : Type 0 where
+  pub program : AreSuited (program_rows_in top.made) (instructions_in top.made)
+  pub within : FrameIsInRange (length (instructions_in top.made)) top.frame
+  pub held : HavePlaces (program_rows_in top.made) top.frame.homes shapes
+  pub lent : (k : ℕ) (row : Row) → slice_get (program_rows_in top.made) k ≡ Some row → IsLent top.frame.base row.form (slice_get top.frame.homes k)
   pub base : top.frame.base ≤ length shapes
 
 -- all of them, the newest first; when one ends, its variables end
-abbrev pub StandFrom : List Shape → Invocation → List Invocation → Type 0
-StandFrom shapes top [] = StandsWell shapes top
-StandFrom shapes top (caller ∷ more) = StandsWell shapes top × StandFrom (take top.frame.base shapes) caller more
+abbrev pub AreLawfulFrom : List Shape → Invocation → List Invocation → Type 0
+AreLawfulFrom shapes top [] = IsLawfulInvocation shapes top
+AreLawfulFrom shapes top (caller ∷ more) = IsLawfulInvocation shapes top × AreLawfulFrom (take top.frame.base shapes) caller more
 
-abbrev pub StandLawful : Stack → Type 0
-StandLawful s = StandFrom (shapes_of s.values) s.top s.callers
+abbrev pub IsLawfulStack : Stack → Type 0
+IsLawfulStack s = AreLawfulFrom (shapes_of s.values) s.top s.callers
 
 abbrev pub IsLawful : ProcessState → Type 0
-IsLawful d = StandLawful d.stack
+IsLawful d = IsLawfulStack d.stack
 
 -- ---- replies that suit what was asked
 
@@ -75,12 +76,12 @@ Either false A B = B
 abbrev pub SuitValues : Op → List Row → List ℕ → List Val → List Class → List Arg → List Val → Type 0
 SuitValues op rows homes values (class ∷ more) (arg ∷ rest) (v ∷ vs) =
     Either (takes_value rows class arg)
-    (SuitsPlace op values (place_of homes (Some arg)) v × SuitValues op rows homes values more rest vs)
+    (SuitsPlace op values (item_place homes (Some arg)) v × SuitValues op rows homes values more rest vs)
     (SuitValues op rows homes values more rest (v ∷ vs))
 SuitValues op rows homes values _ _ _ = Unit {0}
 
 abbrev pub SuitsHere : Stack → Instruction → List Val → Type 0
-SuitsHere s i vs = SuitValues i.op (rows_in s.top.made) s.top.frame.homes s.values (classes i.op) i.args vs
+SuitsHere s i vs = SuitValues i.op (program_rows_in s.top.made) s.top.frame.homes s.values (classes i.op) i.args vs
 
 abbrev pub SuitsInto : Stack → Instruction → List Val → Op → Option Program → Type 0
 SuitsInto s i vs Callx (Some program) = SuitsCall s (arguments_in (Some i)) program × SuitsHere s i vs
@@ -89,7 +90,7 @@ SuitsInto s i vs op came = SuitsHere s i vs
 
 abbrev pub SuitsBy : Stack → Option Instruction → List Val → Type 0
 SuitsBy s None vs = Unit {0}
-SuitsBy s (Some i) vs = SuitsInto s i vs i.op (program_in vs)
+SuitsBy s (Some i) vs = SuitsInto s i vs i.op (program_returned vs)
 
 -- a reply to what the newest invocation asks; a signal and a wait suit
 abbrev pub SuitsReply : ProcessState → Reply → Type 0

@@ -4,5 +4,7 @@ pub mod Invocations
 pub mod Lawful
 pub mod Passed
 pub mod Process
+pub mod AfterReply
+pub mod LocalRun
 pub mod Progress
 pub mod Replies

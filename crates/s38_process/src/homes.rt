@@ -53,7 +53,7 @@ fn home_for(base: usize, passed: Passed<'_>, own: usize, form: &Form) -> usize
     }
 }
 
-/// Where the declared names of an invocation lie; each has a place of its own behind the base, in order.
+/// The places of the declared names of an invocation; each has its own place after the base, in order.
 fn homes_from(
     alloc: Global,
     base: usize,

@@ -3,14 +3,17 @@ ghost use Rattle.std.specs.Prelude.{◌≡◌, ◌<◌, ◌+◌, ◌^◌, IfOk, 
 ghost use Rattle.std.specs.Option.{option_copied};
 ghost use Rattle.s38_local.specs.declared.local_end.LocalEnd.{LocalEnd};
 ghost use Rattle.s38_process.specs.Exceptions.{takes};
-ghost use Rattle.s38_process.specs.Invocations.{arguments_in, code_in, deepest, depth_of, entered, exchanged, first_stack, instruction_of, invoked, places_for, popped, rows_in};
-ghost use Rattle.s38_process.specs.Process.{alone_there, is_none, ran, went_on, with_frame};
+ghost use Rattle.s38_process.specs.Invocations.{arguments_in, deepest, depth_of, exchanged, first_stack, instruction_of, instructions_in, invoked, places_for, popped, program_rows_in, with_call};
+ghost use Rattle.s38_process.specs.Process.{with_frame};
+ghost use Rattle.s38_process.specs.AfterReply.{went_on};
+ghost use Rattle.s38_process.specs.LocalRun.{alone_there, is_none, ran};
 ghost use Rattle.s38_requests.specs.Requests.{request_of};
 
+use crate::held_invocation::HeldInvocation;
 use crate::homes::{Passed, first_frame, own_places};
 use crate::made::{code_of, rows_of};
-use crate::standing::Standing;
-use crate::variables::{add_first_values, blank_values, first_values, next_instruction, receive};
+use crate::receiving::{next_instruction, receive};
+use crate::variables::{add_first_values, blank_values, first_values};
 use s38_base::NoMemory;
 use s38_code::{Arg, Code, CreateResult, Instruction, Request, Val};
 use s38_local::{Frame, LocalEnd};
@@ -26,9 +29,9 @@ pub const DEEPEST: usize = 64;
 #[derive(Drop)]
 pub struct Invocations {
     values: Vec<Val>,
-    top: Standing,
+    top: HeldInvocation,
     /// Those that called it, the oldest first.
-    callers: Vec<Standing>,
+    callers: Vec<HeldInvocation>,
 }
 
 impl Model for Invocations {
@@ -42,8 +45,8 @@ impl Model for Invocations {
     ghost invariant = { λ s. length s.callers.items < deepest };
 }
 
-/// The operands of a call behind the program.
-fn behind_first(args: &[Arg]) -> &[Arg]
+/// The operands of a call after the program.
+fn after_first(args: &[Arg]) -> &[Arg]
     ensures { result.now ≡ drop 1 args.now }
 {
     match args {
@@ -58,13 +61,13 @@ fn arguments_in(instruction: Option<&Instruction>) -> &[Arg]
 {
     match instruction {
         None => &[],
-        Some(instruction) => behind_first(instruction.args.as_slice()),
+        Some(instruction) => after_first(instruction.args.as_slice()),
     }
 }
 
-/// The place behind the next instruction.
-fn behind_next(top: &Standing) -> usize
-    requires { top.now.frame.at < length (code_in top.now.made) }
+/// The place after the next instruction.
+fn place_after_next(top: &HeldInvocation) -> usize
+    requires { top.now.frame.at < length (instructions_in top.now.made) }
     ensures { result ≡ top.now.frame.at + 1 }
 {
     let at = top.frame().at;
@@ -86,7 +89,7 @@ impl Invocations {
         values.append(&mut own)?;
         Ok(Invocations {
             values,
-            top: Standing::new(made, frame),
+            top: HeldInvocation::new(made, frame),
             callers: Vec::new(alloc),
         })
     }
@@ -113,7 +116,7 @@ impl Invocations {
         self.top.made()
     }
 
-    /// Where the newest invocation stands.
+    /// The frame of the newest invocation.
     pub fn frame(&self) -> &Frame
         ensures { result.now ≡ self.now.top.frame }
     {
@@ -134,7 +137,7 @@ impl Invocations {
         recent: &mut Recent,
         instruction: &Instruction,
     ) -> Result<Request, NoMemory>
-        ensures { IfOk result (λ request. request ≡ request_of (rows_in self.now.top.made) self.now.top.frame.homes self.now.values instruction.now) }
+        ensures { IfOk result (λ request. request ≡ request_of (program_rows_in self.now.top.made) self.now.top.frame.homes self.now.values instruction.now) }
     {
         let frame = self.top.frame();
         let scope = Scope {
@@ -175,8 +178,8 @@ impl Invocations {
         }
     }
 
-    /// A program that the next instruction begins behind so many variables, with its arguments.
-    fn entrant(&self, alloc: Global, code: Code, base: usize) -> Result<Standing, NoMemory>
+    /// A program that the next instruction begins after so many variables, with its arguments.
+    fn entrant(&self, alloc: Global, code: Code, base: usize) -> Result<HeldInvocation, NoMemory>
         ensures { IfOk result (λ entrant. entrant ≡ invoked code base (places_for self.now.top base)) }
     {
         let passed = Passed::Arguments {
@@ -184,17 +187,17 @@ impl Invocations {
             arguments: arguments_in(self.instruction()),
         };
         let frame = first_frame(alloc, code.program().rows.as_slice(), base, passed)?;
-        Ok(Standing::new(CreateResult::Created(code), frame))
+        Ok(HeldInvocation::new(CreateResult::Created(code), frame))
     }
 
     /// A program is called by the next instruction. An error changes nothing.
     pub fn call(&mut self, alloc: Global, code: Code) -> Result<(), NoMemory>
-        requires within { self.old.top.frame.at < length (code_in self.old.top.made) }
+        requires within { self.old.top.frame.at < length (instructions_in self.old.top.made) }
         requires depth { depth_of self.old < deepest }
-        ensures ok { OnOk result (self.new ≡ entered self.old code) }
+        ensures ok { OnOk result (self.new ≡ with_call self.old code) }
         ensures err { OnErr result (self.new ≡ self.old) }
     {
-        let behind = behind_next(&self.top);
+        let behind = place_after_next(&self.top);
         let entrant = match self.entrant(alloc, code, self.values.len()) {
             Ok(entrant) => entrant,
             Err(fault) => return Err(fault),
@@ -239,7 +242,7 @@ impl Invocations {
 
     /// The newest invocation goes on with what came to its receivers. An error changes nothing.
     pub fn receive(&mut self, alloc: Global, given: &[Val]) -> Result<(), NoMemory>
-        requires within { self.old.top.frame.at < length (code_in self.old.top.made) }
+        requires within { self.old.top.frame.at < length (instructions_in self.old.top.made) }
         ensures ok { OnOk result (self.new ≡ went_on self.old (instruction_of self.old.top) given.now) }
         ensures err { OnErr result (self.new ≡ self.old) }
     {

@@ -3,16 +3,18 @@
 
 mod entering;
 mod exceptions;
+mod held_invocation;
 mod homes;
 mod invocation;
 mod invocations;
 mod laws;
 mod local_run;
 mod made;
+mod merging;
 mod next;
 mod process;
 mod progress;
-mod standing;
+mod receiving;
 mod status;
 mod unsettled;
 mod variables;

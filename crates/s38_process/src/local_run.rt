@@ -2,7 +2,8 @@
 ghost use Rattle.std.specs.Prelude.{◌≡◌, ◌<◌, ◌≤◌, ◌+◌, ◌^◌, ◌&&◌, IfOk, IsTrue, OnErr, OnOk};
 ghost use Rattle.s38_local.specs.Frames.{Went};
 ghost use Rattle.s38_local.specs.declared.local_end.LocalEnd.{LocalEnd};
-ghost use Rattle.s38_process.specs.Process.{after_local, alone, alone_there, is_return, local_step, settled, with_frame};
+ghost use Rattle.s38_process.specs.Process.{is_return, with_frame};
+ghost use Rattle.s38_process.specs.LocalRun.{after_local, after_local_run, alone, alone_there, local_step};
 ghost use Rattle.s38_process.specs.Invocations.{Stack, instruction_of};
 ghost use Rattle.s38_process.specs.Progress.{process_state};
 
@@ -34,7 +35,7 @@ fn may_go_on(budget: u32, progress: &Progress) -> bool
     }
 }
 
-/// Where a process stands behind a local instruction.
+/// How a process goes on after a local instruction.
 fn go_on(
     alloc: Global,
     budget: u32,
@@ -63,7 +64,7 @@ fn go_on(
 }
 
 /// Does the next instruction, where the process does it by itself, and says whether it did.
-#[tactic(auto, unfolding(crate::specs::Process::local_step))]
+#[tactic(auto, unfolding(crate::specs::LocalRun::local_step))]
 fn step(
     alloc: Global,
     budget: u32,
@@ -88,7 +89,7 @@ fn step(
     }
 }
 
-/// Does local instructions until the process asks something or ends. Where memory is refused it stands before the
+/// Does local instructions until the process asks something or ends. Where memory is refused it is before the
 /// same event.
 pub fn run_locally(
     alloc: Global,
@@ -97,8 +98,8 @@ pub fn run_locally(
     progress: &mut Progress,
 ) -> Result<(), NoMemory>
     requires { progress.old.done ≤ budget }
-    ensures ok { OnOk result (process_state invocations.new budget progress.new ≡ settled (process_state invocations.old budget progress.old)) }
-    ensures same { settled (process_state invocations.new budget progress.new) ≡ settled (process_state invocations.old budget progress.old) }
+    ensures ok { OnOk result (process_state invocations.new budget progress.new ≡ after_local_run (process_state invocations.old budget progress.old)) }
+    ensures same { after_local_run (process_state invocations.new budget progress.new) ≡ after_local_run (process_state invocations.old budget progress.old) }
     ensures within { progress.new.done ≤ budget }
 {
     'steps: loop {

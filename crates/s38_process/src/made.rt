@@ -1,13 +1,13 @@
 ghost use Rattle.std.specs.Prelude.{◌≡◌};
-ghost use Rattle.s38_process.specs.Invocations.{code_in, rows_in};
-ghost use Rattle.s38_process.specs.Process.{begun_by};
+ghost use Rattle.s38_process.specs.Invocations.{instructions_in, program_rows_in};
+ghost use Rattle.s38_process.specs.AfterReply.{begun_by};
 
 use crate::status::Status;
 use s38_code::{CreateResult, EndCause, Instruction, Row};
 
 /// The declarations of a program; a template that was refused has none.
 pub fn rows_of(made: &CreateResult) -> &[Row]
-    ensures { result.now ≡ rows_in made.now }
+    ensures { result.now ≡ program_rows_in made.now }
 {
     match made {
         CreateResult::Created(code) => code.program().rows.as_slice(),
@@ -17,7 +17,7 @@ pub fn rows_of(made: &CreateResult) -> &[Row]
 
 /// The instructions of a program; a template that was refused has none.
 pub fn code_of(made: &CreateResult) -> &[Instruction]
-    ensures { result.now ≡ code_in made.now }
+    ensures { result.now ≡ instructions_in made.now }
 {
     match made {
         CreateResult::Created(code) => code.program().code.as_slice(),
@@ -25,7 +25,7 @@ pub fn code_of(made: &CreateResult) -> &[Instruction]
     }
 }
 
-/// Where a process stands once it has started: where its template was refused, before its end.
+/// The status of a process once it has started: where its template was refused, before its end.
 pub fn begun_by(made: &CreateResult) -> Status
     ensures { result ≡ begun_by made.now }
 {

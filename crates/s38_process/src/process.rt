@@ -2,9 +2,11 @@ ghost use Rattle.std.specs.Prelude.{◌≡◌, IfOk, IsTrue, OnErr, OnOk};
 ghost use Rattle.s38_code.specs.declared.reply.Reply.{Reply};
 ghost use Rattle.s38_odt.specs.Suited.{AreSuited};
 ghost use Rattle.s38_process.specs.Asked.{asked};
-ghost use Rattle.s38_process.specs.Invocations.{code_in, rows_in};
+ghost use Rattle.s38_process.specs.Invocations.{instructions_in, program_rows_in};
 ghost use Rattle.s38_process.specs.Lawful.{IsLawful, SuitsReply};
-ghost use Rattle.s38_process.specs.Process.{absorbed, event_of, fresh, settled};
+ghost use Rattle.s38_process.specs.Process.{event_of, fresh};
+ghost use Rattle.s38_process.specs.AfterReply.{absorbed};
+ghost use Rattle.s38_process.specs.LocalRun.{after_local_run};
 
 use crate::next::Next;
 use crate::unsettled::Unsettled;
@@ -14,7 +16,7 @@ use s38_requests::Recent;
 use std::alloc::Global;
 use std::marker::Model;
 
-/// A process of a job. Contracts see it behind its local run: before its next shared instruction, or at its end.
+/// A process of a job. Contracts see it after its local run: before its next shared instruction, or at its end.
 #[derive(Drop)]
 pub struct Process {
     inner: Unsettled,
@@ -25,23 +27,24 @@ pub struct Process {
 
 impl Model for Process {
     ghost use Rattle.std.specs.Prelude.{◌≡◌, IsTrue};
-    ghost use Rattle.s38_process.specs.Process.{ProcessState, settled};
+    ghost use Rattle.s38_process.specs.Process.{ProcessState};
+    ghost use Rattle.s38_process.specs.LocalRun.{after_local_run};
 
     ghost Value = { ProcessState };
 
-    ghost view = { λ p. settled p.inner };
+    ghost view = { λ p. after_local_run p.inner };
 
-    ghost invariant = { λ p. IsTrue p.rests → settled p.inner ≡ p.inner };
+    ghost invariant = { λ p. IsTrue p.rests → after_local_run p.inner ≡ p.inner };
 }
 
 /// Does the local run, unless it is known to be done.
 #[inline(always)]
 #[tactic(auto, using(crate::proofs::Alone::settled_again))]
 fn settle(inner: &mut Unsettled, rests: &mut bool) -> Result<(), NoMemory>
-    requires { IsTrue rests.old → settled inner.old ≡ inner.old }
-    ensures ok { OnOk result (inner.new ≡ settled inner.old) }
-    ensures same { settled inner.new ≡ settled inner.old }
-    ensures rests { IsTrue rests.new → settled inner.new ≡ inner.new }
+    requires { IsTrue rests.old → after_local_run inner.old ≡ inner.old }
+    ensures ok { OnOk result (inner.new ≡ after_local_run inner.old) }
+    ensures same { after_local_run inner.new ≡ after_local_run inner.old }
+    ensures rests { IsTrue rests.new → after_local_run inner.new ≡ inner.new }
 {
     if *rests {
         return Ok(());
@@ -60,7 +63,7 @@ impl Process {
     #[tactic(auto, using(crate::proofs::Alone::fresh_settled))]
     pub fn begin(alloc: Global, job: &Job, made: CreateResult) -> Result<Process, NoMemory>
         ensures ok { IfOk result (λ process. process ≡ fresh made job.now.budget) }
-        ensures lawful { AreSuited (rows_in made) (code_in made) → IfOk result (λ process. IsLawful process) }
+        ensures lawful { AreSuited (program_rows_in made) (instructions_in made) → IfOk result (λ process. IsLawful process) }
     {
         let inner = Unsettled::begin(alloc, job, made)?;
         Ok(Process {
@@ -84,7 +87,7 @@ impl Process {
     }
 
     /// Goes on by the reply to what it asked. MustWait leaves it as it was, and so does an error.
-    #[tactic(auto, using(crate::proofs::Alone::absorbed_waits, crate::proofs::Alone::settled_again), unfolding(crate::specs::Process::absorbed))]
+    #[tactic(auto, using(crate::proofs::Alone::absorbed_waits, crate::proofs::Alone::settled_again), unfolding(crate::specs::AfterReply::absorbed))]
     pub fn absorb(&mut self, reply: &Reply) -> Result<(), NoMemory>
         ensures ok { OnOk result (self.new ≡ absorbed self.old reply.now) }
         ensures waits { reply.now ≡ Reply.MustWait → self.new ≡ self.old }

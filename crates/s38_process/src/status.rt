@@ -1,6 +1,6 @@
 use s38_code::EndCause;
 
-/// Where a process stands between two events.
+/// The status of a process between two events.
 #[derive(Clone, Copy, PartialEq, Eq, Debug)]
 pub enum Status {
     /// It has not started.

@@ -1,8 +1,10 @@
 ghost use Rattle.std.specs.Prelude.{◌≡◌, ◌<◌, ◌+◌, IfOk, OnOk, OnErr, Some, length};
 ghost use Rattle.s38_process.specs.Asked.{asked, is_acting};
 ghost use Rattle.s38_process.specs.declared.status.Status.{Status};
-ghost use Rattle.s38_process.specs.Invocations.{code_in, instruction_of};
-ghost use Rattle.s38_process.specs.Process.{acts, after_act, after_asked, after_signal, after_end, after_event, after_start, event_of, fresh, one_more, returns, runs, settled, went_by};
+ghost use Rattle.s38_process.specs.Invocations.{instruction_of, instructions_in};
+ghost use Rattle.s38_process.specs.Process.{acts, after_signal, event_of, fresh, one_more, returns, runs};
+ghost use Rattle.s38_process.specs.AfterReply.{after_act, after_asked, after_end, after_event, after_start, went_by};
+ghost use Rattle.s38_process.specs.LocalRun.{after_local_run};
 
 use crate::entering::go_into;
 use crate::exceptions::take_signal;
@@ -18,7 +20,7 @@ use s38_requests::Recent;
 use std::alloc::Global;
 use std::marker::Model;
 
-/// A process somewhere in its local run. Contracts see its state as it stands.
+/// A process somewhere in its local run. Contracts see its state as it is.
 #[derive(Drop)]
 pub struct Unsettled {
     alloc: Global,
@@ -57,8 +59,8 @@ impl Unsettled {
 
     /// Does local instructions up to the next shared one, or up to the end.
     pub fn run_locally(&mut self) -> Result<(), NoMemory>
-        ensures ok { OnOk result (self.new ≡ settled self.old) }
-        ensures same { settled self.new ≡ settled self.old }
+        ensures ok { OnOk result (self.new ≡ after_local_run self.old) }
+        ensures same { after_local_run self.new ≡ after_local_run self.old }
     {
         run_locally(
             self.alloc,
@@ -105,7 +107,7 @@ impl Unsettled {
         }
     }
 
-    /// What the process asks where it stands.
+    /// What the process asks in this state.
     #[tactic(auto, unfolding(crate::specs::Process::event_of))]
     pub fn asks(&self, recent: &mut Recent) -> Result<Next, NoMemory>
         ensures { IfOk result (λ next. asked next ≡ event_of self.now) }
@@ -153,10 +155,10 @@ impl Unsettled {
         }
     }
 
-    /// Goes on in a program that came, or behind the instruction with the values that came.
+    /// Goes on in a program that came, or after the instruction with the values that came.
     fn take_values(&mut self, given: &[Val]) -> Result<(), NoMemory>
         requires room { self.old.done < self.old.budget }
-        requires within { self.old.stack.top.frame.at < length (code_in self.old.stack.top.made) }
+        requires within { self.old.stack.top.frame.at < length (instructions_in self.old.stack.top.made) }
         ensures ok { OnOk result (self.new ≡ one_more self.old (went_by self.old.stack (instruction_of self.old.stack.top) given.now)) }
         ensures err { OnErr result (self.new ≡ self.old) }
     {
@@ -184,7 +186,7 @@ impl Unsettled {
 
     fn go_on_from_act(&mut self, reply: &Reply) -> Result<(), NoMemory>
         requires room { self.old.done < self.old.budget }
-        requires within { self.old.stack.top.frame.at < length (code_in self.old.stack.top.made) }
+        requires within { self.old.stack.top.frame.at < length (instructions_in self.old.stack.top.made) }
         ensures ok { OnOk result (self.new ≡ after_act self.old reply.now) }
         ensures err { OnErr result (self.new ≡ self.old) }
     {
@@ -210,7 +212,7 @@ impl Unsettled {
         }
     }
 
-    /// Goes on by the reply to what it asks where it stands.
+    /// Goes on by the reply to what it asks in this state.
     #[tactic(auto, unfolding(crate::specs::Process::event_of))]
     pub fn answer(&mut self, reply: &Reply) -> Result<(), NoMemory>
         ensures ok { OnOk result (self.new ≡ after_asked self.old (event_of self.old) reply.now) }

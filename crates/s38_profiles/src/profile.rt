@@ -1,6 +1,6 @@
 use s38_base::Special;
 
-/// Where a private row stands: whose it is, and on which object.
+/// The place of a private row: whose it is, and on which object.
 #[derive(Clone, Copy, PartialEq, Eq, PartialOrd, Ord, Debug)]
 pub struct RowKey {
     pub user: u64,

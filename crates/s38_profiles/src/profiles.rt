@@ -99,7 +99,7 @@ impl Profiles {
         }
     }
 
-    /// How many rows were visited; the count stands still at its last value.
+    /// How many rows were visited; the count stays at its last value.
     pub fn visits(&self) -> u64
         ensures { result ≡ self.now.visits }
     {

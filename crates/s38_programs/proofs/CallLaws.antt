@@ -3,9 +3,9 @@ use Rattle.std.proofs.Common.{◌≡◌, ℕ, ◌<◌, false, nat_le, List, None
 use Rattle.std.proofs.lemmas.Bool.Decides.{nat_tests}
 use Rattle.s38_base.specs.Exceptions as exceptions
 use Rattle.s38_code.specs.declared.operand.Operand.{Operand}
-use Rattle.s38_rules.specs.Invocations.{frames_used, most_frames, stack_of}
-use Rattle.s38_rules.specs.Programs.{argument_rule, callx_fails, frame_rule}
-use Rattle.s38_rules.specs.State.{State}
+use Rattle.s38_rules.specs.state.Invocations.{frames_used, most_frames, stack_of}
+use Rattle.s38_rules.specs.families.Calls.{argument_rule, callx_fails, frame_rule}
+use Rattle.s38_rules.specs.state.State.{State}
 use Rattle.s38_rules.proofs.RuleLaws.{fails_none, first_none}
 
 -- a frame is left

@@ -3,10 +3,10 @@ use Rattle.std.proofs.Common.{◌≡◌, ℕ, List, None}
 use Rattle.std.specs.Prelude.{Option}
 use Rattle.s38_base.specs.declared.exception.Exception.{Exception}
 use Rattle.s38_code.specs.declared.operand.Operand.{Operand}
-use Rattle.s38_rules.specs.Creation.{creation_fails}
-use Rattle.s38_rules.specs.Programs.{crtpg_fails, new_program, template_at, template_rule}
-use Rattle.s38_rules.specs.State.{State}
-use Rattle.s38_rules.specs.Users.{user_of}
+use Rattle.s38_rules.specs.families.Creation.{creation_fails}
+use Rattle.s38_rules.specs.families.Programs.{crtpg_fails, new_program, template_at, template_rule}
+use Rattle.s38_rules.specs.state.State.{State}
+use Rattle.s38_rules.specs.ask.Users.{user_of}
 use Rattle.s38_rules.proofs.RuleLaws.{first_none}
 
 -- a program that may be made meets the rules of creation

@@ -3,7 +3,7 @@ use Rattle.std.proofs.Common.{◌≡◌, ℕ, ◌+◌, ◌-◌, Bool, true, fals
 use Rattle.std.proofs.lemmas.Bool.Decides.{nat_tests}
 use Rattle.std.proofs.lemmas.List.Sums.{sum_by-cons}
 use Rattle.std.specs.Prelude.{Some, None, is_none, sum_by}
-use Rattle.s38_rules.specs.Room.{line_size}
+use Rattle.s38_rules.specs.store.Room.{line_size}
 use Rattle.s38_programs.specs.Rooms.{room_after}
 
 none_after : (lines : List (List ℕ)) → is_none (room_after None lines) ≡ true

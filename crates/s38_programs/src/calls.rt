@@ -1,10 +1,10 @@
 //! A process calls a program, or goes on in one in place of its own: the arguments suit its parameters, and its
-//! number stands among the process's invocations.
-ghost use Rattle.s38_rules.specs.Changes.{done};
+//! number is among the process's invocations.
+ghost use Rattle.s38_rules.specs.families.Changes.{done};
 ghost use Rattle.std.specs.Prelude.{◌≡◌, List, IfNone, IfOk, IfSome, None, OnErr, OnOk, drop, false};
 ghost use Rattle.std.specs.Option.{option_copied, option_map};
 ghost use Rattle.s38_base.specs.declared.attr.Attr.{Attr};
-ghost use Rattle.s38_rules.specs.Programs.{are_arguments, argument_rule, call_gives, call_needs, callx_changes, callx_fails, code_in, code_of, frame_rule, is_argument, parameters_in, parameters_of, program_at, with_parameter, xctl_changes, xctl_fails};
+ghost use Rattle.s38_rules.specs.families.Calls.{are_arguments, argument_rule, call_gives, call_needs, callx_changes, callx_fails, code_in, code_of, frame_rule, is_argument, parameters_in, parameters_of, program_at, with_parameter, xctl_changes, xctl_fails};
 
 use s38_base::exceptions::{ARGUMENT_MISMATCH, LIMIT_EXCEEDED};
 use s38_base::{Attr, Category, Exception, Kind, NoMemory, Rights, TryClone};
@@ -56,8 +56,8 @@ fn is_argument(attr: Attr, argument: &Operand) -> bool
     }
 }
 
-/// The arguments behind that of a declaration; None where it is a parameter, and the first is no argument for it.
-fn behind<'a>(form: &Form, arguments: &'a [Operand]) -> Option<&'a [Operand]>
+/// The arguments after that of a declaration; None where it is a parameter, and the first is no argument for it.
+fn arguments_after<'a>(form: &Form, arguments: &'a [Operand]) -> Option<&'a [Operand]>
     ensures some { IfSome result (λ rest. (more : List Attr) → are_arguments (with_parameter form.now more) arguments.now ≡ are_arguments more rest.now) }
     ensures none { IfNone result ((more : List Attr) → are_arguments (with_parameter form.now more) arguments.now ≡ false) }
 {
@@ -82,7 +82,7 @@ fn are_arguments(rows: &[Row], arguments: &[Operand]) -> bool
 {
     let mut rest = arguments;
     for row in rows {
-        match behind(&row.form, rest) {
+        match arguments_after(&row.form, rest) {
             None => return false,
             Some(more) => rest = more,
         }
@@ -102,7 +102,7 @@ fn suits(program: Option<&Code>, arguments: &[Operand]) -> bool
     }
 }
 
-/// The arguments stand behind operand 1.
+/// The arguments follow operand 1.
 fn arguments_in(operands: &[Operand]) -> &[Operand]
     ensures { result.now ≡ drop 1 operands.now }
 {
@@ -115,7 +115,7 @@ fn arguments_in(operands: &[Operand]) -> &[Operand]
 // ---- needs and conditions
 
 /// RETRIEVE on the program, which is read.
-#[tactic(auto, unfolding(s38_rules::specs::Programs::call_needs))]
+#[tactic(auto, unfolding(s38_rules::specs::families::Calls::call_needs))]
 pub fn call_needs() -> Needs
     ensures { result ≡ call_needs }
 {
@@ -144,7 +144,7 @@ fn frame_rule(world: &Core<Objects, Profiles>, process: u32, depth: u16) -> Opti
 }
 
 /// The arguments suit, and a frame is left.
-#[tactic(auto, unfolding(s38_rules::specs::Programs::callx_fails))]
+#[tactic(auto, unfolding(s38_rules::specs::families::Calls::callx_fails))]
 pub fn callx_fails(
     world: &Core<Objects, Profiles>,
     process: u32,
@@ -160,7 +160,7 @@ pub fn callx_fails(
 }
 
 /// The arguments suit.
-#[tactic(auto, unfolding(s38_rules::specs::Programs::xctl_fails))]
+#[tactic(auto, unfolding(s38_rules::specs::families::Calls::xctl_fails))]
 pub fn xctl_fails(objects: &Objects, operands: &[Operand]) -> Option<Exception>
     ensures { result ≡ xctl_fails objects.now operands.now }
 {
@@ -170,7 +170,7 @@ pub fn xctl_fails(objects: &Objects, operands: &[Operand]) -> Option<Exception>
 // ---- what is given and changed
 
 /// The program itself.
-#[tactic(auto, unfolding(s38_rules::specs::Programs::call_gives))]
+#[tactic(auto, unfolding(s38_rules::specs::families::Calls::call_gives))]
 pub fn call_gives(
     alloc: Global,
     objects: &Objects,
@@ -184,7 +184,7 @@ pub fn call_gives(
     }
 }
 
-/// The program stands behind the frames that count; where memory is refused nothing changes.
+/// The program follows the frames that count; where memory is refused nothing changes.
 #[tactic(auto, using(crate::proofs::CallLaws::frame_left))]
 pub fn callx(
     world: &mut Core<Objects, Profiles>,
@@ -200,7 +200,7 @@ pub fn callx(
     world.push(process, depth, program)
 }
 
-/// The program stands in place of the last frame that counts.
+/// The program takes the place of the last frame that counts.
 pub fn xctl(world: &mut Core<Objects, Profiles>, process: u32, depth: u16, operands: &[Operand])
     ensures { world.new ≡ done world.old process (xctl_changes world.old.held depth operands.now) }
 {

@@ -1,9 +1,9 @@
 //! Programs as objects: made of the deck's templates, called, and destroyed.
-ghost use Rattle.s38_rules.specs.State.{State};
-ghost use Rattle.s38_rules.specs.Changes.{done};
+ghost use Rattle.s38_rules.specs.state.State.{State};
+ghost use Rattle.s38_rules.specs.families.Changes.{done};
 ghost use Rattle.std.specs.Prelude.{◌≡◌, None, IfOk, OnOk, OnErr};
 ghost use Rattle.std.specs.Option.{option_copied};
-ghost use Rattle.s38_rules.specs.Programs.{crtpg_changes, crtpg_fails, new_program, program_in, programs_row, template_at};
+ghost use Rattle.s38_rules.specs.families.Programs.{crtpg_changes, crtpg_fails, new_program, program_in, programs_row, template_at};
 
 use crate::calls::{call_gives, call_needs, callx, callx_fails, xctl, xctl_fails};
 use crate::templates::{is_larger, program_in, template_in, template_rule};
@@ -39,7 +39,7 @@ fn new_program(objects: &Objects, operands: &[Operand]) -> Creating
 }
 
 /// The name is free, the template makes a program, the owner pays for it, and its text is not too long.
-#[tactic(auto, unfolding(s38_rules::specs::Programs::crtpg_fails))]
+#[tactic(auto, unfolding(s38_rules::specs::families::Programs::crtpg_fails))]
 fn crtpg_fails(
     world: &Core<Objects, Profiles>,
     process: u32,
@@ -95,7 +95,7 @@ fn crtpg(
 // ---- the family
 
 /// What an instruction of programs needs.
-#[tactic(auto, unfolding(s38_rules::specs::Programs::programs_row))]
+#[tactic(auto, unfolding(s38_rules::specs::families::Programs::programs_row))]
 pub fn needs(act: Act<'_>) -> Needs
     ensures { (s : State) → result ≡ (programs_row act.entry.request.now.op).needs s act.entry.process act.entry.depth act.entry.request.now }
 {
@@ -108,7 +108,7 @@ pub fn needs(act: Act<'_>) -> Needs
 }
 
 /// The first of its conditions and limits that fails.
-#[tactic(auto, unfolding(s38_rules::specs::Programs::programs_row))]
+#[tactic(auto, unfolding(s38_rules::specs::families::Programs::programs_row))]
 pub fn conditions(world: &Core<Objects, Profiles>, act: Act<'_>) -> Option<Exception>
     ensures { result ≡ (programs_row act.entry.request.now.op).fails world.now act.entry.process act.entry.depth act.entry.request.now }
 {
@@ -122,7 +122,7 @@ pub fn conditions(world: &Core<Objects, Profiles>, act: Act<'_>) -> Option<Excep
 }
 
 /// The value for its receiver.
-#[tactic(auto, unfolding(s38_rules::specs::Programs::programs_row))]
+#[tactic(auto, unfolding(s38_rules::specs::families::Programs::programs_row))]
 pub fn value(
     alloc: Global,
     world: &Core<Objects, Profiles>,
@@ -140,7 +140,7 @@ pub fn value(
 }
 
 /// What it changes, where it doesn't fail; where memory is refused nothing changes.
-#[tactic(auto, unfolding(s38_rules::specs::Programs::programs_row))]
+#[tactic(auto, unfolding(s38_rules::specs::families::Programs::programs_row))]
 pub fn apply(
     alloc: Global,
     world: &mut Core<Objects, Profiles>,

@@ -1,23 +1,23 @@
 //! The deck's templates, from which programs are made.
 ghost use Rattle.std.specs.Prelude.{◌≡◌, find, nat_lt, sum_by};
 ghost use Rattle.std.specs.Option.{option_copied, option_map};
-ghost use Rattle.s38_programs.specs.Rooms.{room_after, room_behind};
-ghost use Rattle.s38_rules.specs.Room.{line_size};
-ghost use Rattle.s38_rules.specs.Programs.{is_named, program_by, program_in, refused_in, size_in, template_in, template_rule};
+ghost use Rattle.s38_programs.specs.Rooms.{room_after, room_after_line};
+ghost use Rattle.s38_rules.specs.store.Room.{line_size};
+ghost use Rattle.s38_rules.specs.families.Programs.{program_by, program_in, refused_in, size_in, template_in, template_is_named, template_rule};
 
 use s38_base::exceptions::TEMPLATE_MISSING;
 use s38_base::{Exception, Name, Rule};
 use s38_code::{CheckedTemplate, Code, CreateResult, Lines, Operand};
 
 fn is_named(template: &CheckedTemplate, name: &Name) -> bool
-    ensures { result ≡ is_named name.now template.now }
+    ensures { result ≡ template_is_named name.now template.now }
 {
     template.name.as_bytes() == name.as_bytes()
 }
 
 /// The first template of a name.
 fn find_named<'a>(templates: &'a [CheckedTemplate], name: &Name) -> Option<&'a CheckedTemplate>
-    ensures { option_copied result ≡ find (is_named name.now) templates.now }
+    ensures { option_copied result ≡ find (template_is_named name.now) templates.now }
 {
     templates.iter().find(|template| is_named(template, name))
 }
@@ -79,9 +79,9 @@ pub fn template_rule(template: Option<&CheckedTemplate>) -> Option<Exception>
 
 // ---- the size of a program's text
 
-/// What is left of a room behind a line and its line feed; None once a line did not fit.
-fn room_behind(room: Option<u32>, line: &[u8]) -> Option<u32>
-    ensures { result ≡ room_behind room line.now }
+/// What is left of a room after a line and its line feed; None once a line did not fit.
+fn room_after_line(room: Option<u32>, line: &[u8]) -> Option<u32>
+    ensures { result ≡ room_after_line room line.now }
 {
     let room = room?;
     if (room as usize) <= line.len() {
@@ -95,7 +95,7 @@ fn room_after(lines: Lines<'_>, room: Option<u32>) -> Option<u32>
 {
     let mut left = room;
     for line in lines {
-        left = room_behind(left, line);
+        left = room_after_line(left, line);
     }
     left
 }

@@ -1,5 +1,5 @@
--- The first place whose key stands in a relation to a key is the first of all, the first that does not come before the
--- key, or the first behind it.
+-- The first place whose key is in a relation to a key is the first of all, the first that does not come before the
+-- key, or the first after it.
 use Rattle.std.proofs.Common.{◌≡◌, ℕ, ◌<◌, Bool, true, false, not, List, refl, sym, ◌∙◌, ap, arith, subst}
 use Rattle.std.proofs.lemmas.Bool.Decides.{nat_tests}
 use Rattle.std.proofs.lemmas.Map.Lookups.{exact_bytes}
@@ -12,14 +12,14 @@ use Rattle.std.specs.declared.cmp.Ordering.TheVariants.{Less, Equal, Greater}
 use Rattle.s38_base.specs.Relations.{holds, is_greater, is_less}
 use Rattle.s38_base.specs.declared.words.Relation.{Relation}
 use Rattle.s38_queues.specs.declared.place.Place.{Place}
-use Rattle.s38_queues.specs.Places.{AreBefore, IsFirstOf, has, is_from, stands}
+use Rattle.s38_queues.specs.Places.{AreBefore, IsFirstOf, has, is_from, place_fits}
 
 abbrev pub key_cmp : List ℕ → List ℕ → Ordering
 key_cmp = slice_cmp nat_cmp
 
 -- ---- keys
 
--- what does not come behind a key that is below another one is below it too
+-- what does not come after a key that is below another one is below it too
 below_stays : (a b k : List ℕ) → is_gt (key_cmp a b) ≡ false → key_cmp b k ≡ Less → key_cmp a k ≡ Less
 below_stays a b k h l =
     elim (key_cmp a b) as (λ r. key_cmp a b ≡ r → is_gt r ≡ false → key_cmp a k ≡ Less) [
@@ -85,29 +85,29 @@ from_above key next q h =
 
 -- what fits passes a test
 abbrev pub AllPass : BTreeSet Place → Relation → List ℕ → (Place → Bool) → Type 0
-AllPass places relation key test = (q : Place) → has places q ≡ true → stands relation key q ≡ true → test q ≡ true
+AllPass places relation key test = (q : Place) → has places q ≡ true → place_fits relation key q ≡ true → test q ≡ true
 
 never : (a b : Bool) → (a ≡ true → b ≡ true) → b ≡ false → a ≡ false
 never true b f h = let on : b ≡ true = f refl in absurd (cc)
 never false b f h = refl
 
 pub none_fits : (places : BTreeSet Place) (relation : Relation) (key : List ℕ) (test : Place → Bool) → AllPass places relation key test →
-    IsFirstOf test places None → IsFirstOf (stands relation key) places None
-none_fits places relation key test pass none q there = never (stands relation key q) (test q) (pass q there) (none q there)
+    IsFirstOf test places None → IsFirstOf (place_fits relation key) places None
+none_fits places relation key test pass none q there = never (place_fits relation key q) (test q) (pass q there) (none q there)
 
 pub this_fits : (places : BTreeSet Place) (relation : Relation) (key : List ℕ) (test : Place → Bool) (p : Place) → AllPass places relation key test →
-    IsFirstOf test places (Some p) → stands relation key p ≡ true → IsFirstOf (stands relation key) places (Some p)
+    IsFirstOf test places (Some p) → place_fits relation key p ≡ true → IsFirstOf (place_fits relation key) places (Some p)
 this_fits places relation key test p pass first on = (first.0, on, λ q there fits. first.2 q there (pass q there fits))
 
 -- where the first of all does not fit, no key below fits
-none_below : (places : BTreeSet Place) (relation : Relation) (key : List ℕ) (p : Place) → IsFirstOf (λ _. true) places (Some p) → stands relation key p ≡ false →
+none_below : (places : BTreeSet Place) (relation : Relation) (key : List ℕ) (p : Place) → IsFirstOf (λ _. true) places (Some p) → place_fits relation key p ≡ false →
     AllPass places relation key (is_from (place key 0))
 none_below places relation key p first off q there fits =
     from_same key q ∙
     elim (key_cmp q.key key) as (λ r. key_cmp q.key key ≡ r → holds relation r ≡ true → not (is_less r) ≡ true) [
       | Less ↦ λ e h.
           let low : key_cmp p.key key ≡ Less = below_stays p.key q.key key (key_first p q (first.2 q there refl)) e in
-          let on : stands relation key p ≡ true = ap (holds relation) low ∙ h in
+          let on : place_fits relation key p ≡ true = ap (holds relation) low ∙ h in
           absurd (cc)
       | Equal ↦ λ e h. refl
       | Greater ↦ λ e h. refl
@@ -115,7 +115,7 @@ none_below places relation key p first off q there fits =
 
 -- where the first that does not come before the key does not fit either, no place of the key fits
 none_same : (places : BTreeSet Place) (relation : Relation) (key : List ℕ) (next : ℕ) (p : Place) → AreBefore next places → AllPass places relation key (is_from (place key 0)) →
-    IsFirstOf (is_from (place key 0)) places (Some p) → stands relation key p ≡ false → AllPass places relation key (is_from (place key next))
+    IsFirstOf (is_from (place key 0)) places (Some p) → place_fits relation key p ≡ false → AllPass places relation key (is_from (place key next))
 none_same places relation key next p before pass first off q there fits =
     let from : is_from (place key 0) q ≡ true = pass q there fits in
     from_above key next q (before q there) ∙
@@ -127,7 +127,7 @@ none_same places relation key next p before pass first off q there fits =
       | Equal ↦ λ e h.
           let here = not_true (is_less (key_cmp p.key key)) (sym (from_same key p) ∙ first.1) in
           let same : key_cmp p.key key ≡ Equal = same_stays p.key q.key key (key_first p q (first.2 q there from)) e here in
-          let on : stands relation key p ≡ true = ap (holds relation) same ∙ h in
+          let on : place_fits relation key p ≡ true = ap (holds relation) same ∙ h in
           absurd (cc)
       | Greater ↦ λ e h. refl
     ] refl fits
@@ -137,15 +137,15 @@ greater Less h = absurd (cc)
 greater Equal h = absurd (cc)
 greater Greater h = refl
 
--- where the first behind the key does not fit either, none fits
+-- where the first after the key does not fit either, none fits
 none_above : (places : BTreeSet Place) (relation : Relation) (key : List ℕ) (next : ℕ) (p : Place) → AreBefore next places → AllPass places relation key (is_from (place key next)) →
-    IsFirstOf (is_from (place key next)) places (Some p) → stands relation key p ≡ false → IsFirstOf (stands relation key) places None
+    IsFirstOf (is_from (place key next)) places (Some p) → place_fits relation key p ≡ false → IsFirstOf (place_fits relation key) places None
 none_above places relation key next p before pass first off q there =
-    elim (stands relation key q) as (λ b. stands relation key q ≡ b → b ≡ false) [
+    elim (place_fits relation key q) as (λ b. place_fits relation key q ≡ b → b ≡ false) [
       | true ↦ λ fits.
           let high : key_cmp q.key key ≡ Greater = greater (key_cmp q.key key) (sym (from_above key next q (before q there)) ∙ pass q there fits) in
           let top : key_cmp p.key key ≡ Greater = greater (key_cmp p.key key) (sym (from_above key next p (before p first.0)) ∙ first.1) in
-          let wrong : stands relation key p ≡ true = ap (holds relation) (top ∙ sym high) ∙ fits in
+          let wrong : place_fits relation key p ≡ true = ap (holds relation) (top ∙ sym high) ∙ fits in
           absurd (cc)
       | false ↦ λ fits. refl
     ] refl
@@ -153,20 +153,20 @@ none_above places relation key next p before pass first off q there =
 -- ---- the same, with the key that was copied and the answers of the tests
 
 pub pass_same : (places : BTreeSet Place) (relation : Relation) (key start : List ℕ) (p : Place) (fit : Bool) → start ≡ key →
-    IsFirstOf (λ _. true) places (Some p) → fit ≡ stands relation key p → fit ≡ false → AllPass places relation key (is_from (place start 0))
+    IsFirstOf (λ _. true) places (Some p) → fit ≡ place_fits relation key p → fit ≡ false → AllPass places relation key (is_from (place start 0))
 pass_same places relation key start p fit e first is off =
     subst (λ (k : List ℕ). AllPass places relation key (is_from (place k 0))) (sym e) (none_below places relation key p first (sym is ∙ off))
 
 pub pass_above : (places : BTreeSet Place) (relation : Relation) (key start : List ℕ) (next : ℕ) (p : Place) (fit : Bool) → start ≡ key → AreBefore next places →
-    AllPass places relation key (is_from (place start 0)) → IsFirstOf (is_from (place start 0)) places (Some p) → fit ≡ stands relation key p → fit ≡ false →
+    AllPass places relation key (is_from (place start 0)) → IsFirstOf (is_from (place start 0)) places (Some p) → fit ≡ place_fits relation key p → fit ≡ false →
     AllPass places relation key (is_from (place start next))
 pass_above places relation key start next p fit e before =
-    subst (λ (k : List ℕ). AllPass places relation key (is_from (place k 0)) → IsFirstOf (is_from (place k 0)) places (Some p) → fit ≡ stands relation key p → fit ≡ false → AllPass places relation key (is_from (place k next)))
+    subst (λ (k : List ℕ). AllPass places relation key (is_from (place k 0)) → IsFirstOf (is_from (place k 0)) places (Some p) → fit ≡ place_fits relation key p → fit ≡ false → AllPass places relation key (is_from (place k next)))
     (sym e) (λ pass first is off. none_same places relation key next p before pass first (sym is ∙ off))
 
 pub pass_none : (places : BTreeSet Place) (relation : Relation) (key start : List ℕ) (next : ℕ) (p : Place) (fit : Bool) → start ≡ key → AreBefore next places →
-    AllPass places relation key (is_from (place start next)) → IsFirstOf (is_from (place start next)) places (Some p) → fit ≡ stands relation key p → fit ≡ false →
-    IsFirstOf (stands relation key) places None
+    AllPass places relation key (is_from (place start next)) → IsFirstOf (is_from (place start next)) places (Some p) → fit ≡ place_fits relation key p → fit ≡ false →
+    IsFirstOf (place_fits relation key) places None
 pass_none places relation key start next p fit e before =
-    subst (λ (k : List ℕ). AllPass places relation key (is_from (place k next)) → IsFirstOf (is_from (place k next)) places (Some p) → fit ≡ stands relation key p → fit ≡ false → IsFirstOf (stands relation key) places None)
+    subst (λ (k : List ℕ). AllPass places relation key (is_from (place k next)) → IsFirstOf (is_from (place k next)) places (Some p) → fit ≡ place_fits relation key p → fit ≡ false → IsFirstOf (place_fits relation key) places None)
     (sym e) (λ pass first is off. none_above places relation key next p before pass first (sym is ∙ off))

@@ -6,7 +6,7 @@ use Rattle.std.proofs.Common.{sym, ◌∙◌, ap}
 abbrev pub padded : List ℕ → List ℕ
 padded text = text ++ drop (length text) (replicate 120 0)
 
--- the first len bytes are a key, and zeros stand behind it
+-- the first len bytes are a key, and zeros follow it
 pub record IsPadded (bytes : List ℕ) (len : ℕ) : Type 0 where
   pub short : len ≤ 120
   pub len_is : length (take len bytes) ≡ len

@@ -29,8 +29,8 @@ abbrev pub message_size : Message → ℕ
 message_size m = length m.key + length m.text + 2
 
 -- the bytes of the image: eight for the queue itself, and its messages
-abbrev pub image_size : List Message → ℕ
-image_size messages = 8 + sum_by message_size messages
+abbrev pub queue_image_size : List Message → ℕ
+queue_image_size messages = 8 + sum_by message_size messages
 
 -- the queue with one more message, which has arrived last
 abbrev pub with_message : MessageQueue → Message → MessageQueue
@@ -51,14 +51,14 @@ is_any Any = true
 is_any _ = false
 
 -- any message, or, of a queue with keys, one by a key of their length
-abbrev pub is_asked : MessageQueue → Relation → ℕ → Bool
-is_asked q relation key_len = is_any relation || (is_keyed q.order && (key_len == q.key_len))
+abbrev pub message_is_sought : MessageQueue → Relation → ℕ → Bool
+message_is_sought q relation key_len = is_any relation || (is_keyed q.order && (key_len == q.key_len))
 
 -- ---- which message is taken
 
--- whether the key of a message stands in a relation to a key, byte by byte
-abbrev pub fits : Relation → List ℕ → Message → Bool
-fits relation key m = holds relation (slice_cmp nat_cmp m.key key)
+-- whether the key of a message is in a relation to a key, byte by byte
+abbrev pub key_is_in_relation : Relation → List ℕ → Message → Bool
+key_is_in_relation relation key m = holds relation (slice_cmp nat_cmp m.key key)
 
 abbrev pub lesser : List ℕ → Option (List ℕ) → List ℕ
 lesser key None = key
@@ -71,7 +71,7 @@ least_key f (m ∷ ms) = if f m then Some (lesser m.key (least_key f ms)) else l
 
 abbrev pub oldest_of_key : Option (List ℕ) → List Message → Option ℕ
 oldest_of_key None ms = None
-oldest_of_key (Some key) ms = position (fits Eq key) ms
+oldest_of_key (Some key) ms = position (key_is_in_relation Eq key) ms
 
 -- the place of the first message in the order of keys, among those that fit; of equal keys that of the one that
 -- arrived first
@@ -86,22 +86,22 @@ abbrev pub newest : List Message → Option ℕ
 newest [] = None
 newest (m ∷ ms) = Some (length ms)
 
-abbrev pub place_in : Order → Relation → List ℕ → List Message → Option ℕ
-place_in Fifo relation key ms = oldest ms
-place_in Lifo relation key ms = newest ms
-place_in Keyed relation key ms = first_by_key (fits relation key) ms
+abbrev pub message_place : Order → Relation → List ℕ → List Message → Option ℕ
+message_place Fifo relation key ms = oldest ms
+message_place Lifo relation key ms = newest ms
+message_place Keyed relation key ms = first_by_key (key_is_in_relation relation key) ms
 
 -- the place of the message that is taken: in order of arrival the oldest, against it the newest, and by keys the
--- first in their order whose key stands in the relation to the key; none where the queue may not be asked so
-abbrev pub found : MessageQueue → Relation → List ℕ → Option ℕ
-found q relation key = if is_asked q relation (length key) then place_in q.order relation key q.messages else None
+-- first in their order whose key is in the relation to the key; none where the queue may not be asked so
+abbrev pub message_found : MessageQueue → Relation → List ℕ → Option ℕ
+message_found q relation key = if message_is_sought q relation (length key) then message_place q.order relation key q.messages else None
 
 abbrev pub message_at : List Message → Option ℕ → Option Message
 message_at ms None = None
 message_at ms (Some at) = slice_get ms at
 
 abbrev pub found_message : MessageQueue → Relation → List ℕ → Option Message
-found_message q relation key = message_at q.messages (found q relation key)
+found_message q relation key = message_at q.messages (message_found q relation key)
 
 abbrev pub without_place : MessageQueue → Option ℕ → MessageQueue
 without_place q None = q
@@ -109,4 +109,4 @@ without_place q (Some at) = without_message q at
 
 -- the queue without the message that is taken
 abbrev pub without_found : MessageQueue → Relation → List ℕ → MessageQueue
-without_found q relation key = without_place q (found q relation key)
+without_found q relation key = without_place q (message_found q relation key)

@@ -1,4 +1,4 @@
--- The places of messages in the order of their keys: a message with a key stands at its key and the number of its
+-- The places of messages in the order of their keys: the place of a message is its key and the number of its
 -- arrival.
 use Rattle.std.specs.Prelude.{◌≡◌, ℕ, ◌<◌, ◌≤◌, Bool, true, false, not, ◌||◌, List, length, Option, Some, None, nat_le}
 use Rattle.std.specs.BTreeMap as tree
@@ -11,7 +11,7 @@ use Rattle.std.specs.Ordering.{is_gt, nat_cmp}
 use Rattle.std.specs.declared.cmp.Ordering.{Ordering}
 use Rattle.s38_base.specs.Relations.{holds, is_equal}
 use Rattle.s38_base.specs.declared.words.Relation.{Relation}
-use Rattle.s38_queues.specs.MessageQueue.{first_by_key, fits, is_any, longest_key}
+use Rattle.s38_queues.specs.MessageQueue.{first_by_key, is_any, key_is_in_relation, longest_key}
 use Rattle.s38_queues.specs.declared.message.Message.{Message}
 use Rattle.s38_queues.specs.declared.place.Place.{Place}
 use Rattle.s38_queues.specs.contracts.place.PlaceOrd.TheImpl as place_ord
@@ -23,9 +23,9 @@ place_cmp = (place_ord.ghosts).cmp
 abbrev pub has : BTreeSet Place → Place → Bool
 has places p = sorted.contains place_cmp places p
 
--- whether a key stands so to another one that a relation holds
-abbrev pub stands : Relation → List ℕ → Place → Bool
-stands relation key p = holds relation (slice_cmp nat_cmp p.key key)
+-- whether a relation holds between the key of a place and another one
+abbrev pub place_fits : Relation → List ℕ → Place → Bool
+place_fits relation key p = holds relation (slice_cmp nat_cmp p.key key)
 
 -- whether a place does not come before another one
 abbrev pub is_from : Place → Place → Bool
@@ -49,7 +49,7 @@ abbrev pub is_of_key : List ℕ → Option Message → Bool
 is_of_key key None = false
 is_of_key key (Some m) = is_equal (slice_cmp nat_cmp m.key key)
 
--- the messages, by their arrivals, have these places and no other, and the next will arrive behind them
+-- the messages, by their arrivals, have these places and no other, and the next will arrive after them
 pub record ArePlaced (next : ℕ) (messages : BTreeMap ℕ Message) (places : BTreeSet Place) : Type 0 where
   pub placed : (p : Place) → has places p ≡ is_of_key p.key (tree.get nat_cmp messages p.arrival)
   pub behind : (arrival : ℕ) → next ≤ arrival → tree.get nat_cmp messages arrival ≡ None
@@ -59,7 +59,7 @@ pub record ArePlaced (next : ℕ) (messages : BTreeMap ℕ Message) (places : BT
 
 -- the place of the message that is first by key, among those that fit
 abbrev pub found_by_key : Relation → List ℕ → List Message → Option ℕ
-found_by_key relation key ms = first_by_key (fits relation key) ms
+found_by_key relation key ms = first_by_key (key_is_in_relation relation key) ms
 
 -- the messages without the one at a place
 abbrev pub without_at : List Message → Option ℕ → List Message

@@ -1,7 +1,7 @@
 ghost use Rattle.std.specs.Prelude.{◌≡◌, ◌+◌, ◌≤◌, ◌++◌, ◌∷◌, [], length, slice_get, true, IfSome, OnOk, OnErr};
 ghost use Rattle.std.specs.Option.{option_copied};
 ghost use Rattle.s38_queues.specs.Kept.{messages_of, order_of};
-ghost use Rattle.s38_queues.specs.MessageQueue.{image_size, longest_key, message_at, message_size, newest, oldest, place_in};
+ghost use Rattle.s38_queues.specs.MessageQueue.{longest_key, message_at, message_place, message_size, newest, oldest, queue_image_size};
 ghost use Rattle.s38_queues.specs.Places.{is_short, without_at};
 
 use crate::keyed::KeyedMessages;
@@ -19,7 +19,7 @@ pub enum Kept {
     Keyed(KeyedMessages),
 }
 
-/// Puts a message behind the others; an error leaves them as they were.
+/// Puts a message after the others; an error leaves them as they were.
 fn push_back(messages: &mut VecDeque<Message>, message: Message) -> Result<(), NoMemory>
     ensures ok { OnOk result (messages.new.items ≡ messages.old.items ++ message ∷ []) }
     ensures err { OnErr result (messages.new.items ≡ messages.old.items) }
@@ -114,7 +114,7 @@ impl Kept {
         }
     }
 
-    /// Puts a message behind the others; an error leaves them as they were.
+    /// Puts a message after the others; an error leaves them as they were.
     pub fn push(&mut self, message: Message) -> Result<(), NoMemory>
         requires { length message.key ≤ longest_key }
         ensures order { order_of self.new ≡ order_of self.old }
@@ -131,7 +131,7 @@ impl Kept {
     /// The message that is taken next; None exactly where there is none.
     pub fn find(&self, relation: Relation, key: &[u8]) -> Option<&Message>
         requires { is_short relation key.now ≡ true }
-        ensures { option_copied result ≡ message_at (messages_of self.now) (place_in (order_of self.now) relation key.now (messages_of self.now)) }
+        ensures { option_copied result ≡ message_at (messages_of self.now) (message_place (order_of self.now) relation key.now (messages_of self.now)) }
     {
         match self {
             Kept::Fifo(messages) => find_oldest(messages),
@@ -142,9 +142,9 @@ impl Kept {
 
     fn take_out(&mut self, relation: Relation, key: &[u8]) -> Option<Message>
         requires { is_short relation key.now ≡ true }
-        ensures message { result ≡ message_at (messages_of self.old) (place_in (order_of self.old) relation key.now (messages_of self.old)) }
+        ensures message { result ≡ message_at (messages_of self.old) (message_place (order_of self.old) relation key.now (messages_of self.old)) }
         ensures order { order_of self.new ≡ order_of self.old }
-        ensures rest { messages_of self.new ≡ without_at (messages_of self.old) (place_in (order_of self.old) relation key.now (messages_of self.old)) }
+        ensures rest { messages_of self.new ≡ without_at (messages_of self.old) (message_place (order_of self.old) relation key.now (messages_of self.old)) }
     {
         match self {
             Kept::Fifo(messages) => take_oldest(messages),
@@ -156,10 +156,10 @@ impl Kept {
     /// Takes the message that `find` finds out, without memory.
     pub fn take(&mut self, relation: Relation, key: &[u8]) -> Option<Message>
         requires { is_short relation key.now ≡ true }
-        ensures message { result ≡ message_at (messages_of self.old) (place_in (order_of self.old) relation key.now (messages_of self.old)) }
+        ensures message { result ≡ message_at (messages_of self.old) (message_place (order_of self.old) relation key.now (messages_of self.old)) }
         ensures order { order_of self.new ≡ order_of self.old }
-        ensures rest { messages_of self.new ≡ without_at (messages_of self.old) (place_in (order_of self.old) relation key.now (messages_of self.old)) }
-        ensures size { IfSome result (λ m. image_size (messages_of self.new) + message_size m ≡ image_size (messages_of self.old)) }
+        ensures rest { messages_of self.new ≡ without_at (messages_of self.old) (message_place (order_of self.old) relation key.now (messages_of self.old)) }
+        ensures size { IfSome result (λ m. queue_image_size (messages_of self.new) + message_size m ≡ queue_image_size (messages_of self.old)) }
     {
         self.take_out(relation, key)
     }

@@ -68,7 +68,7 @@ impl KeyedMessages {
         Messages::of_keyed(self.messages.values())
     }
 
-    /// Puts a message behind the others, in logarithmic time; an error leaves them as they were.
+    /// Puts a message after the others, in logarithmic time; an error leaves them as they were.
     pub fn push(&mut self, message: Message) -> Result<(), NoMemory>
         requires { length message.key ≤ longest_key }
         ensures ok { OnOk result (self.new ≡ self.old ++ message ∷ []) }
@@ -95,7 +95,7 @@ impl KeyedMessages {
         }
     }
 
-    /// The first message in the order of keys whose key stands in a relation to a key, and of equal keys the oldest, in
+    /// The first message in the order of keys whose key is in a relation to a key, and of equal keys the oldest, in
     /// logarithmic time. None exactly where there is none.
     pub fn find(&self, relation: Relation, key: &[u8]) -> Option<&Message>
         requires { is_short relation key.now ≡ true }

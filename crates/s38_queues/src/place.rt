@@ -1,5 +1,5 @@
 ghost use Rattle.std.specs.Prelude.{◌≡◌, true};
-ghost use Rattle.s38_queues.specs.Places.{AreBefore, IsFirstOf, is_from, is_short, stands};
+ghost use Rattle.s38_queues.specs.Places.{AreBefore, IsFirstOf, is_from, is_short, place_fits};
 
 use crate::key::Key;
 use s38_base::Relation;
@@ -12,8 +12,8 @@ pub struct Place {
     pub arrival: u64,
 }
 
-fn stands(place: &Place, relation: Relation, key: &[u8]) -> bool
-    ensures { result ≡ stands relation key.now place.now }
+fn place_fits(place: &Place, relation: Relation, key: &[u8]) -> bool
+    ensures { result ≡ place_fits relation key.now place.now }
 {
     relation.holds(place.key.as_bytes().cmp(key))
 }
@@ -32,7 +32,7 @@ fn first_from(places: &BTreeSet<Place>, start: Place) -> Option<Place>
     places.range(start..).next().copied()
 }
 
-/// The first of the places whose key stands in a relation to a key. The keys below it, those that are it and those
+/// The first of the places whose key is in a relation to a key. The keys below it, those that are it and those
 /// above it are neighbours each, so one of the three that are first there is first of all.
 pub fn first_place(
     places: &BTreeSet<Place>,
@@ -42,10 +42,10 @@ pub fn first_place(
 ) -> Option<Place>
     requires before { AreBefore next places.now }
     requires short { is_short relation key.now ≡ true }
-    ensures { IsFirstOf (stands relation key.now) places.now result }
+    ensures { IsFirstOf (place_fits relation key.now) places.now result }
 {
     let below = first_of_all(places)?;
-    if stands(&below, relation, key) {
+    if place_fits(&below, relation, key) {
         return Some(below);
     }
     let start = Key::new(key);
@@ -56,7 +56,7 @@ pub fn first_place(
             arrival: 0,
         },
     )?;
-    if stands(&same, relation, key) {
+    if place_fits(&same, relation, key) {
         return Some(same);
     }
     let above = first_from(
@@ -66,7 +66,7 @@ pub fn first_place(
             arrival: next,
         },
     )?;
-    if stands(&above, relation, key) {
+    if place_fits(&above, relation, key) {
         Some(above)
     } else {
         None

@@ -1,6 +1,6 @@
 ghost use Rattle.std.specs.Prelude.{◌≡◌, ◌≢◌, ◌+◌, ◌<◌, ◌≤◌, ◌↔◌, [], length, slice_get, true, IfOk, IsErrOf, OnOk, OnErr};
 ghost use Rattle.std.specs.Option.{option_copied};
-ghost use Rattle.s38_queues.specs.MessageQueue.{found_message, image_size, is_asked, longest_key, message, message_size, with_message, without_found};
+ghost use Rattle.s38_queues.specs.MessageQueue.{found_message, longest_key, message, message_is_sought, message_size, queue_image_size, with_message, without_found};
 
 use crate::kept::Kept;
 use crate::message::{Message, Order};
@@ -26,13 +26,13 @@ pub struct Queue {
 impl Model for Queue {
     ghost use Rattle.std.specs.Prelude.{◌≡◌, ◌≤◌};
     ghost use Rattle.s38_queues.specs.Kept.{messages_of, order_of};
-    ghost use Rattle.s38_queues.specs.MessageQueue.{MessageQueue, image_size, longest_key};
+    ghost use Rattle.s38_queues.specs.MessageQueue.{MessageQueue, longest_key, queue_image_size};
 
     ghost Value = { MessageQueue };
 
     ghost view = { λ q. record { order = order_of q.kept; key_len = q.key_len; longest = q.longest; messages = messages_of q.kept } };
 
-    ghost invariant = { λ q. (q.key_len ≤ longest_key) × (q.size ≡ image_size (messages_of q.kept)) × (q.size ≤ 16777216) };
+    ghost invariant = { λ q. (q.key_len ≤ longest_key) × (q.size ≡ queue_image_size (messages_of q.kept)) × (q.size ≤ 16777216) };
 }
 
 /// A message of its own memory.
@@ -106,7 +106,7 @@ impl Queue {
 
     /// How many bytes the image of the queue has.
     pub fn image_len(&self) -> u32
-        ensures size { result ≡ image_size self.now.messages }
+        ensures size { result ≡ queue_image_size self.now.messages }
         ensures bound { result ≤ 16777216 }
     {
         self.size
@@ -127,14 +127,14 @@ impl Queue {
         self.kept.messages()
     }
 
-    /// Puts a message behind the others. It is refused for its key, then for its length, then where the image
+    /// Puts a message after the others. It is refused for its key, then for its length, then where the image
     /// would exceed 16,777,216 bytes; a refused message changes nothing.
     pub fn put(&mut self, key: &[u8], text: &[u8]) -> Result<(), QueueFault>
         ensures ok { OnOk result (self.new ≡ with_message self.old (message key.now text.now)) }
         ensures bad_key { IsErrOf result QueueFault.BadKey ↔ (length key.now ≢ self.old.key_len) }
         ensures too_long { IsErrOf result QueueFault.TooLong ↔ ((length key.now ≡ self.old.key_len) × (self.old.longest < length text.now)) }
         ensures full { IsErrOf result QueueFault.Full ↔ ((length key.now ≡ self.old.key_len) × (length text.now ≤ self.old.longest)
-            × (16777216 < image_size self.old.messages + message_size (message key.now text.now))) }
+            × (16777216 < queue_image_size self.old.messages + message_size (message key.now text.now))) }
         ensures err { OnErr result (self.new ≡ self.old) }
     {
         if key.len() != self.key_len as usize {
@@ -158,7 +158,7 @@ impl Queue {
     }
 
     /// The message that is taken next: with FIFO the oldest, with LIFO the newest, with keys the first in their order
-    /// whose key stands in the relation to `key`, and of equal keys the oldest. None exactly where there is none,
+    /// whose key is in the relation to `key`, and of equal keys the oldest. None exactly where there is none,
     /// and where the queue may not be asked so: by another relation than ANY it is asked with keys, for one of their length.
     pub fn find(&self, relation: Relation, key: &[u8]) -> Option<&Message>
         ensures { option_copied result ≡ found_message self.now relation key.now }
@@ -171,7 +171,7 @@ impl Queue {
 
     /// Whether the queue may be asked so: for any message, or by a key of the length of its keys.
     fn is_asked(&self, relation: Relation, key_len: usize) -> bool
-        ensures { result ≡ is_asked self.now relation key_len }
+        ensures { result ≡ message_is_sought self.now relation key_len }
     {
         match relation {
             Relation::Any => true,

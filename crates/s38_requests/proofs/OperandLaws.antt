@@ -14,14 +14,14 @@ none_left : (rows : List Row) (homes : List ℕ) (values : List Val) (more : Lis
 none_left rows homes values [] = refl
 none_left rows homes values (class ∷ more) = refl
 
--- behind the last argument nothing is asked for
-pub none_behind : (rows : List Row) (homes : List ℕ) (values : List Val) (more : List Class) (given : List Arg) (k : ℕ) → length given ≤ k → operands_of rows homes values more (drop k given) ≡ []
-none_behind rows homes values more given k past = ap (operands_of rows homes values more) (drop_of_length-le given past) ∙ none_left rows homes values more
+-- after the last argument nothing is asked for
+pub none_after : (rows : List Row) (homes : List ℕ) (values : List Val) (more : List Class) (given : List Arg) (k : ℕ) → length given ≤ k → operands_of rows homes values more (drop k given) ≡ []
+none_after rows homes values more given k past = ap (operands_of rows homes values more) (drop_of_length-le given past) ∙ none_left rows homes values more
 
 -- so all operands are made there
 pub all_made : (rows : List Row) (homes : List ℕ) (values : List Val) (more : List Class) (given : List Arg) (k : ℕ) (made all : List Operand) → length given ≤ k → made ++ operands_of rows homes values more (drop k given) ≡ all → made ≡ all
 all_made rows homes values more given k made all past h =
-    sym (append-nil made) ∙ sym (ap (λ o. made ++ o) (none_behind rows homes values more given k past)) ∙ h
+    sym (append-nil made) ∙ sym (ap (λ o. made ++ o) (none_after rows homes values more given k past)) ∙ h
 
 -- a list is empty where its length is told to be none
 pub none_there : (xs : List Operand) (told : Bool) → told ≡ (length xs == 0) → IsTrue told → xs ≡ []

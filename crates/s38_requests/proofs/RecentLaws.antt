@@ -1,4 +1,4 @@
--- What stands already is kept by keeping it.
+-- What is kept already does not change when it is kept once more.
 use Rattle.std.proofs.Common.{◌≡◌, ◌%◌, ◌∙◌, ℕ, List, Option, None, Some, ap, sym, slice_set}
 use Rattle.std.proofs.lemmas.List.{set-get_or}
 use Rattle.s38_code.specs.declared.operand.Operand.{Operand}

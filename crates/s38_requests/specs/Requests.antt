@@ -25,15 +25,15 @@ is_receiver CellsReceiver = true
 is_receiver _ = false
 
 -- a variable that is read: its pointer, or its bytes
-abbrev pub source_by : Attr → Option Val → Operand
-source_by attrs.Pointer v = operands.Ptr (value_pointer v)
-source_by attr v = operands.Value attr (value_bytes v)
+abbrev pub operand_source : Attr → Option Val → Operand
+operand_source attrs.Pointer v = operands.Ptr (value_pointer v)
+operand_source attr v = operands.Value attr (value_bytes v)
 
 abbrev pub item_operand : Bool → Attr → Option Val → Operand
 item_operand true attr v = operands.Receiver attr
-item_operand false attr v = source_by attr v
+item_operand false attr v = operand_source attr v
 
--- an item behind a base lies in the space of the base's pointer
+-- an item with a base lies in the space of the base's pointer
 abbrev pub item_by : List ℕ → List Val → Bool → ℕ → Option Form → Operand
 item_by homes values receiver i (Some (forms.Based base offset attr)) = operands.InSpace (value_pointer (value_of_item homes values base)) offset attr
 item_by homes values receiver i (Some (forms.Local attr first)) = item_operand receiver attr (value_of_item homes values i)

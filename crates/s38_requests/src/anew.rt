@@ -3,7 +3,7 @@ ghost use Rattle.std.specs.Prelude.{◌≡◌, ◌++◌, ◌∷◌, [], IfOk, On
 ghost use Rattle.std.specs.Option.{option_copied};
 ghost use Rattle.s38_code.specs.Operations.{classes};
 ghost use Rattle.s38_code.specs.declared.operand.Operand.{Operand};
-ghost use Rattle.s38_requests.specs.Requests.{item_by, item_operand, operand_of, operands_of, source_by};
+ghost use Rattle.s38_requests.specs.Requests.{item_by, item_operand, operand_of, operand_source, operands_of};
 
 use crate::receivers::is_receiver;
 use crate::scope::Scope;
@@ -45,7 +45,7 @@ fn add_source(
     attr: Attr,
     value: Option<&Val>,
 ) -> Result<(), NoMemory>
-    ensures { OnOk result (made.new.items ≡ made.old.items ++ source_by attr (option_copied value.entry) ∷ []) }
+    ensures { OnOk result (made.new.items ≡ made.old.items ++ operand_source attr (option_copied value.entry) ∷ []) }
 {
     match attr {
         Attr::Pointer => add(made, Operand::Ptr(value_pointer(value))),
@@ -70,7 +70,7 @@ fn add_held(
     }
 }
 
-/// Adds an item as the machine gets it: one behind a base lies in the space of the base's pointer.
+/// Adds an item as the machine gets it: one with a base lies in the space of the base's pointer.
 #[inline(always)]
 fn add_item(
     alloc: Global,

@@ -43,7 +43,7 @@ impl Recent {
     }
 
     /// Keeps these operands for an instruction, in place of those that were kept there.
-    pub fn keep(&mut self, at: usize, operands: Operands)
+    pub fn keep_operands(&mut self, at: usize, operands: Operands)
         ensures { self.new ≡ with_latest self.old at operands }
     {
         self.kept[at % PLACES] = Some(operands);

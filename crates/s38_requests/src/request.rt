@@ -53,7 +53,7 @@ fn operands_at(
         Some(kept) => kept.try_clone(alloc),
         None => {
             let operands = operands_anew(alloc, scope, instruction)?;
-            recent.keep(at, operands.try_clone(alloc)?);
+            recent.keep_operands(at, operands.try_clone(alloc)?);
             Ok(operands)
         }
     }

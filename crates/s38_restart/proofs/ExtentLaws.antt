@@ -8,16 +8,16 @@ use Rattle.std.specs.List.Sorted.{IsStrictlyIncreasing, IsStrictlySortedBy}
 use Rattle.std.specs.Ordering.{nat_cmp}
 use Rattle.std.specs.Prelude.{None}
 use Rattle.std.specs.declared.cmp.Ordering.TheVariants.{Less}
-use Rattle.s38_durable.specs.Following.{extent_in}
-use Rattle.s38_extents.specs.Extents.{AreRising, IsBelowAll}
+use Rattle.s38_durable_state.specs.Following.{extent_in}
+use Rattle.s38_space_map.specs.Extents.{AreRising, IsBelowAll}
 use Rattle.s38_base.specs.declared.page.Change.{Change}
-use Rattle.s38_groups.specs.Stores.{ceiling_of, first_fault, stored_in}
+use Rattle.s38_restart.specs.catalog.Stores.{ceiling_of, first_fault, objects_stored_in}
 use Rattle.s38_image.specs.declared.stored.Stored.{Stored}
-use Rattle.s38_image_printing.proofs.KindLaws.{read_printable}
+use Rattle.s38_image_writer.proofs.KindLaws.{read_printable}
 use Rattle.s38_restart.proofs.StoredLaws.{IsKept, stored_kept}
 use Rattle.s38_restart.specs.Parts.{AreParts}
 use Rattle.s38_restart.specs.Restarted.{number_in_stored}
-use Rattle.s38_rules.specs.Storable.{IsStorable}
+use Rattle.s38_rules.specs.store.Storable.{IsStorable}
 
 -- ---- order
 
@@ -47,6 +47,6 @@ each_storable : (limit ceiling : ℕ) (ss : List Stored) → limit ≤ 16777216 
 each_storable limit ceiling [] small all = tt
 each_storable limit ceiling (s ∷ ss) small all = (read_printable limit s small all.0.image, each_storable limit ceiling ss small all.1)
 
-pub all_storable : (limit : ℕ) (parts : List Change) → limit ≤ 16777216 → AreParts parts → first_fault limit parts ≡ None → All IsStorableIn (stored_in limit parts)
+pub all_storable : (limit : ℕ) (parts : List Change) → limit ≤ 16777216 → AreParts parts → first_fault limit parts ≡ None → All IsStorableIn (objects_stored_in limit parts)
 all_storable limit parts small are fault =
-    All-from_recursion IsStorableIn (stored_in limit parts) (each_storable limit (ceiling_of parts) (stored_in limit parts) small (stored_kept limit parts are fault))
+    All-from_recursion IsStorableIn (objects_stored_in limit parts) (each_storable limit (ceiling_of parts) (objects_stored_in limit parts) small (stored_kept limit parts are fault))

@@ -13,12 +13,14 @@ use Rattle.s38_rules.specs.declared.data_body.DataBody.{DataBody}
 use Rattle.s38_rules.specs.declared.object.Body.{Body}
 use Rattle.s38_rules.specs.declared.object.Body.TheVariants as bodies
 use Rattle.s38_rules.specs.declared.port.Port.{Port}
-use Rattle.s38_rules.specs.Held.{Held, object, object_in}
-use Rattle.s38_rules.specs.Journaling.{journal_behind, journal_named}
-use Rattle.s38_rules.specs.Parts.{data_of, data_lawful, data_part, journal_at, journal_of, journal_part, no_journal, over, over_body, over_table, part_at, part_in, port_of, port_part}
-use Rattle.s38_groups.specs.Readings.{object_in_stored}
-use Rattle.s38_groups.proofs.LookupLaws.{item_get, place_of_one}
-use Rattle.s38_restart.specs.Restarted.{data_followed, imaged, number_in_stored, table_behind, with_followed}
+use Rattle.s38_rules.specs.state.Held.{Held, object, object_in}
+use Rattle.s38_rules.specs.state.Journaling.{journal_named, journal_of_port}
+use Rattle.s38_rules.specs.state.Parts.{data_of, data_part, journal_of, journal_part, over, over_body, part_at, part_in, port_of, port_part}
+use Rattle.s38_rules.specs.state.PartsAt.{journal_at, no_journal, over_table}
+use Rattle.s38_rules.specs.state.LawfulParts.{data_lawful}
+use Rattle.s38_restart.specs.catalog.Readings.{object_in_stored}
+use Rattle.s38_restart.proofs.catalog.LookupLaws.{item_get, place_of_one}
+use Rattle.s38_restart.specs.Restarted.{data_followed, imaged, number_in_stored, table_followed, with_followed}
 
 -- ---- the first so many of a list, changed
 
@@ -84,7 +86,7 @@ found_object n (s ∷ ss) =
       | false ↦ rest
     ]
 
--- it stands where its number stands
+-- it is where its number is
 pub object_found : (numbers : List ℕ) (ss : List Stored) (n at : ℕ) (r : Option (Bor Stored)) → at ≡ position_or_len (λ k. k == n) numbers → numbers ≡ map number_in_stored ss → IsItemAt ss at r →
     option_map object_in_stored (option_copied r) ≡ object (imaged ss) n
 object_found numbers ss n at r place are item =
@@ -123,7 +125,7 @@ journal_is (s ∷ ss) n =
       | false ↦ rest
     ]
 
--- the journal space behind a port that was found
+-- the journal space that a port names, which was found
 abbrev pub journal_in_port : Held → Option Port → Option JournalList
 journal_in_port h None = None
 journal_in_port h (Some p) = part_at journal_part h p.journal.0
@@ -136,7 +138,7 @@ by_port : (h : Held) (o : Option Port) → option_map (journal_at h) (journal_na
 by_port h None = refl
 by_port h (Some p) = by_journal h p.journal.0 (part_at journal_part h p.journal.0) refl
 
-pub journal_found : (h : Held) (port : ℕ) → option_map (journal_at h) (journal_behind h port) ≡ journal_in_port h (part_at port_part h port)
+pub journal_found : (h : Held) (port : ℕ) → option_map (journal_at h) (journal_of_port h port) ≡ journal_in_port h (part_at port_part h port)
 journal_found h port = by_port h (part_at port_part h port)
 
 abbrev journal_seen_in : List (ℕ × (Option Port × Option JournalList)) → Option Port → Option JournalList
@@ -147,17 +149,17 @@ found_is : (ss : List Stored) (o : Option Port) → journal_in_port (imaged ss) 
 found_is ss None = refl
 found_is ss (Some p) = journal_is ss p.journal.0
 
-behind_seen : (ss : List Stored) (port : ℕ) → option_map (journal_at (imaged ss)) (journal_behind (imaged ss) port) ≡ journal_seen_in (map seen ss) (port_seen (map seen ss) port)
+behind_seen : (ss : List Stored) (port : ℕ) → option_map (journal_at (imaged ss)) (journal_of_port (imaged ss) port) ≡ journal_seen_in (map seen ss) (port_seen (map seen ss) port)
 behind_seen ss port = journal_found (imaged ss) port ∙ found_is ss (part_at port_part (imaged ss) port) ∙ ap (journal_seen_in (map seen ss)) (port_is ss port)
 
-same_journal : (xs ys : List Stored) (port : ℕ) → map seen xs ≡ map seen ys → option_map (journal_at (imaged xs)) (journal_behind (imaged xs) port) ≡ option_map (journal_at (imaged ys)) (journal_behind (imaged ys) port)
+same_journal : (xs ys : List Stored) (port : ℕ) → map seen xs ≡ map seen ys → option_map (journal_at (imaged xs)) (journal_of_port (imaged xs) port) ≡ option_map (journal_at (imaged ys)) (journal_of_port (imaged ys) port)
 same_journal xs ys port same =
     behind_seen xs port ∙ ap (λ (l : List (ℕ × (Option Port × Option JournalList))). journal_seen_in l (port_seen l port)) same ∙ sym (behind_seen ys port)
 
 -- ---- one object among others
 
 same_data : (xs ys : List Stored) (number image : ℕ) (d : DataBody) → map seen xs ≡ map seen ys → data_followed (imaged xs) number image d ≡ data_followed (imaged ys) number image d
-same_data xs ys number image d same = ap (λ (o : Option JournalList). over_table (table_behind number image o) d) (same_journal xs ys d.port.0 same)
+same_data xs ys number image d same = ap (λ (o : Option JournalList). over_table (table_followed number image o) d) (same_journal xs ys d.port.0 same)
 
 same_over : (f g : DataBody → DataBody) (b : Body) (o : Option DataBody) → ((d : DataBody) → f d ≡ g d) → over data_part f b o ≡ over data_part g b o
 same_over f g b None same = refl

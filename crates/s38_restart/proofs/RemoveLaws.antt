@@ -23,7 +23,7 @@ use Rattle.s38_vault.specs.Keys.{key_cmp}
 use Rattle.s38_vault.specs.Vaults.{VaultView, refusal}
 use Rattle.s38_vault.proofs.PlaceLaws.{both_first, both_second}
 
--- ---- the keys of a store stand in order
+-- ---- the keys of a store are in order
 
 below_first : (r : Ordering) → is_lt r ≡ true → r ≡ Less
 below_first Less e = refl
@@ -47,7 +47,7 @@ module _ {V : Type 0} where
 pub keys_in_order : (ks : Keys) → IsStrictlySortedBy key_cmp (keys ks)
 keys_in_order ks = sorted_keys (entries ks) (is_true _ (entries_sorted ks))
 
--- parts whose keys stand in order rise
+-- parts whose keys are in order rise
 pub rising_parts : (xs : List Change) → IsStrictlySortedBy key_cmp (map key_of xs) → AreRising xs
 rising_parts [] h = tt
 rising_parts (x ∷ []) h = tt
@@ -99,7 +99,7 @@ changed_append : (m : Content) (xs ys : List Change) → changed m (xs ++ ys) �
 changed_append m [] ys = refl
 changed_append m (x ∷ xs) ys = changed_append (with_value m x.key x.page) xs ys
 
--- the first of some changes, and so many behind them
+-- the first of some changes, and so many after them
 at_most : (a b : ℕ) → nat_le a b ≡ true → a ≤ b
 at_most a b h = grind (arith, nat_tests)
 

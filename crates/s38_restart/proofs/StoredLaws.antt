@@ -8,18 +8,19 @@ use Rattle.std.specs.List.{AllByRecursion}
 use Rattle.std.specs.Option.{option_and_then, unwrap_or}
 use Rattle.s38_base.specs.declared.id.Kind.TheVariants as kinds
 use Rattle.s38_base.specs.declared.page.Change.{Change}
-use Rattle.s38_codecs.proofs.CodecLaws.{AreBytes-behind, AreBytes-front, unless_some}
-use Rattle.s38_codecs.specs.Codec.{AreBytes}
-use Rattle.s38_groups.proofs.LawfulLaws.{IsWhole, all_whole}
-use Rattle.s38_groups.specs.Groups.{group_of, groups, is_header, is_of, parts_of}
-use Rattle.s38_groups.specs.Stores.{ceiling_of, first_fault, stored_in}
+use Rattle.s38_codec.proofs.CodecLaws.{AreBytes-after, AreBytes-front, unless_some}
+use Rattle.s38_codec.specs.Codec.{AreBytes}
+use Rattle.s38_restart.proofs.catalog.LawfulLaws.{IsWhole, all_whole}
+use Rattle.s38_restart.specs.catalog.Groups.{group_of, groups, is_header, is_part_of, parts_of_number}
+use Rattle.s38_restart.specs.catalog.Stores.{ceiling_of, first_fault, objects_stored_in}
 use Rattle.s38_image.proofs.ImageLaws.{fault_ok, object_exact, then_ok}
 use Rattle.s38_image.specs.Bodies.{BodyImage}
-use Rattle.s38_image.specs.Faults.{Group, ceiling_in, ceiling_key, first_by, first_of, first_under, group, has_first_user, header, header_at, is_bad_header, is_kind, is_number, is_on_disk, sound, sound_by, store_fault}
+use Rattle.s38_image.specs.Faults.{Group, ceiling_in, first_fault_by, first_fault_of, first_under, group, group_has_number, group_is_on_disk, has_first_user, header_at, header_is_of_kind, header_of_group, is_bad_header, sound, sound_by, store_fault}
+use Rattle.s38_image.specs.PartPlaces.{body_part, ceiling_key, rows_part}
 use Rattle.s38_image.specs.Fitting.{AreFine, AreWhole, IsImage}
-use Rattle.s38_image.specs.Headers.{is_within}
-use Rattle.s38_image.specs.Images.{◌>>>◌, after_leading, body_in, body_part, first_missing, header_in, leading, limited, made, object_of, or_fault, rows_in, rows_part, wanted, with_all, with_body, with_rows}
-use Rattle.s38_image.specs.Pages.{bytes_of, stream}
+use Rattle.s38_image.specs.Headers.{header_is_within}
+use Rattle.s38_image.specs.Images.{after_leading, body_in, first_missing, header_in_parts, leading, limited, made, object_of_parts, or_fault, rows_in_parts, wanted_parts, with_all_pages, with_body, with_row_parts, ◌>>>◌}
+use Rattle.s38_image.specs.Pages.{bytes_of_page, stream}
 use Rattle.s38_image.specs.declared.header.Header.{Header}
 use Rattle.s38_image.specs.declared.stored.Stored.{Stored}
 use Rattle.s38_restart.specs.Parts.{AreParts}
@@ -40,24 +41,24 @@ both_bytes xs ys hx hy i = elim (cases_lt i (length xs)) [
 
 fine_rest : (c : Change) (cs : List Change) → AreFine (c ∷ cs) → AreFine cs
 unfolding AreWhole
-fine_rest c cs fine = record { whole = fine.whole.1; bytes = AreBytes-behind (bytes_of c.page) (stream cs) (stream (c ∷ cs)) refl fine.bytes }
+fine_rest c cs fine = record { whole = fine.whole.1; bytes = AreBytes-after (bytes_of_page c.page) (stream cs) (stream (c ∷ cs)) refl fine.bytes }
 
 fine_again : (c : Change) (cs ds : List Change) → AreFine (c ∷ cs) → AreFine ds → AreFine (c ∷ ds)
 unfolding AreWhole
 fine_again c cs ds fine rest = record {
   whole = (fine.whole.0, rest.whole);
-  bytes = both_bytes (bytes_of c.page) (stream ds) (AreBytes-front (bytes_of c.page) (stream cs) (stream (c ∷ cs)) refl fine.bytes) rest.bytes;
+  bytes = both_bytes (bytes_of_page c.page) (stream ds) (AreBytes-front (bytes_of_page c.page) (stream cs) (stream (c ∷ cs)) refl fine.bytes) rest.bytes;
 }
 
 fine_none : AreFine []
 unfolding AreWhole
 fine_none = record { whole = tt; bytes = λ i. omega arith }
 
-pub fine_parts : (n : ℕ) (cs : List Change) → AreFine cs → AreFine (parts_of n cs)
+pub fine_parts : (n : ℕ) (cs : List Change) → AreFine cs → AreFine (parts_of_number n cs)
 fine_parts n [] fine = fine_none
 fine_parts n (c ∷ cs) fine =
     let rest = fine_parts n cs (fine_rest c cs fine) in
-    cond_both (is_of n c) (c ∷ parts_of n cs) (parts_of n cs) AreFine (λ own. fine_again c cs (parts_of n cs) fine rest) (λ other. rest)
+    cond_both (is_part_of n c) (c ∷ parts_of_number n cs) (parts_of_number n cs) AreFine (λ own. fine_again c cs (parts_of_number n cs) fine rest) (λ other. rest)
 
 pub fine_leading : (limit : ℕ) (cs : List Change) → AreFine cs → AreFine (leading limit cs)
 fine_leading limit [] fine = fine_none
@@ -106,15 +107,15 @@ limited_by : (b : Bool) (g h : Header) → cond b (ok_header g) (Err 0) ≡ ok_h
 limited_by true g h e = cc
 limited_by false g h e = absurd cc
 
-pub object_made : (limit n : ℕ) (parts : List Change) (k : Header) (s : Stored) → header_in n (leading rows_part parts) ≡ Some k → object_of limit n parts ≡ Ok s → IsMade n k s
-unfolding object_of
+pub object_made : (limit n : ℕ) (parts : List Change) (k : Header) (s : Stored) → header_in_parts n (leading rows_part parts) ≡ Some k → object_of_parts limit n parts ≡ Ok s → IsMade n k s
+unfolding object_of_parts
 object_made limit n parts k s head read =
     let later = after_leading rows_part parts in
-    let a = then_ok (or_fault 0 (header_in n (leading rows_part parts)) >>> limited limit) (λ x. with_all n parts x later) s read in
-    let b = then_ok (or_fault 0 (header_in n (leading rows_part parts))) (limited limit) a.0 a.1 in
-    let same : a.0 ≡ k = sym (limited_by (is_within limit b.0) b.0 a.0 b.2) ∙ same_header b.0 k (sym (fault_ok 0 (header_in n (leading rows_part parts)) b.0 b.1) ∙ head) in
-    let d = then_ok (first_missing n parts (wanted a.0)) (λ _. with_rows n a.0 (leading body_part later) (after_leading body_part later)) s a.2 in
-    let e = then_ok (or_fault rows_part (rows_in n a.0.rows (leading body_part later))) (λ rs. with_body n a.0 rs (after_leading body_part later)) s d.2 in
+    let a = then_ok (or_fault 0 (header_in_parts n (leading rows_part parts)) >>> limited limit) (λ x. with_all_pages n parts x later) s read in
+    let b = then_ok (or_fault 0 (header_in_parts n (leading rows_part parts))) (limited limit) a.0 a.1 in
+    let same : a.0 ≡ k = sym (limited_by (header_is_within limit b.0) b.0 a.0 b.2) ∙ same_header b.0 k (sym (fault_ok 0 (header_in_parts n (leading rows_part parts)) b.0 b.1) ∙ head) in
+    let d = then_ok (first_missing n parts (wanted_parts a.0)) (λ _. with_row_parts n a.0 (leading body_part later) (after_leading body_part later)) s a.2 in
+    let e = then_ok (or_fault rows_part (rows_in_parts n a.0.rows (leading body_part later))) (λ rs. with_body n a.0 rs (after_leading body_part later)) s d.2 in
     let f = then_ok (or_fault body_part (body_in n a.0.id.kind a.0.body (after_leading body_part later))) (λ i. Ok (made n a.0 e.0 i)) s e.2 in
     record { rows = e.0; image = f.0; is = subst (λ (x : Header). s ≡ made n x e.0 f.0) same (sym (same_stored (made n a.0 e.0 f.0) s f.2)) }
 
@@ -143,18 +144,18 @@ pub record IsKept (limit ceiling : ℕ) (s : Stored) : Type 0 where
 
 module _ (all : List Group) (limit ceiling : ℕ) where
   low_number : (n : ℕ) (h : Header) → is_bad_header all ceiling n h ≡ false → n < ceiling + 1
-  low_number n h good = at_most ceiling n (or_left (nat_lt ceiling n) _ (or_left (nat_lt ceiling n || not (is_kind kinds.Profile (header all h.owner.0))) _ good))
+  low_number n h good = at_most ceiling n (or_left (nat_lt ceiling n) _ (or_left (nat_lt ceiling n || not (header_is_of_kind kinds.Profile (header_of_group all h.owner.0))) _ good))
 
-  pub owner_there : (n : ℕ) (h : Header) → is_bad_header all ceiling n h ≡ false → is_kind kinds.Profile (header all h.owner.0) ≡ true
-  owner_there n h good = true_of _ (or_right (nat_lt ceiling n) _ (or_left (nat_lt ceiling n || not (is_kind kinds.Profile (header all h.owner.0))) _ good))
+  pub owner_there : (n : ℕ) (h : Header) → is_bad_header all ceiling n h ≡ false → header_is_of_kind kinds.Profile (header_of_group all h.owner.0) ≡ true
+  owner_there n h good = true_of _ (or_right (nat_lt ceiling n) _ (or_left (nat_lt ceiling n || not (header_is_of_kind kinds.Profile (header_of_group all h.owner.0))) _ good))
 
   -- a number with a header is at most the ceiling
-  low_header : (n : ℕ) (gs : List Group) → AllByRecursion (IsWhole all limit ceiling) gs → is_kind kinds.Profile (header gs n) ≡ true → n < ceiling + 1
+  low_header : (n : ℕ) (gs : List Group) → AllByRecursion (IsWhole all limit ceiling) gs → header_is_of_kind kinds.Profile (header_of_group gs n) ≡ true → n < ceiling + 1
   low_header n [] ws there = absurd cc
   low_header n (g ∷ gs) ws there =
       let w = ws.0 in
       let rest = low_header n gs ws.1 in
-      elim (is_number n g) as (λ b. is_number n g ≡ b → is_kind kinds.Profile (option_and_then header_at (cond b (Some g) (group gs n))) ≡ true → n < ceiling + 1) [
+      elim (group_has_number n g) as (λ b. group_has_number n g ≡ b → header_is_of_kind kinds.Profile (option_and_then header_at (cond b (Some g) (group gs n))) ≡ true → n < ceiling + 1) [
         | true ↦ λ own q. subst (λ (m : ℕ). m < ceiling + 1) (eqb-true g.number n own) (low_number g.number w.head w.good)
         | false ↦ λ own q. rest q
       ] refl there
@@ -166,7 +167,7 @@ module _ (all : List Group) (limit ceiling : ℕ) where
 
   pub one_kept : AllByRecursion (IsWhole all limit ceiling) all → (g : Group) (w : IsWhole all limit ceiling g) → IsGiven g → IsKept limit ceiling w.stored
   one_kept ws g w given =
-      let read : object_of limit g.number g.parts ≡ Ok w.stored = read_by g.number g (header_at g) (object_of limit g.number g.parts) w.stored w.sound_is in
+      let read : object_of_parts limit g.number g.parts ≡ Ok w.stored = read_by g.number g (header_at g) (object_of_parts limit g.number g.parts) w.stored w.sound_is in
       let exact = object_exact limit g.number g.parts w.stored given.fine read in
       let made_is = object_made limit g.number g.parts w.head w.stored w.header_is read in
       let owner : w.stored.object.owner ≡ w.head.owner = ap (λ (t : Stored). t.object.owner) made_is.is in
@@ -191,30 +192,30 @@ all_kept all limit ceiling ws given = kept_in all limit ceiling ws all ws given
 pub record HasNone (limit : ℕ) (gs : List Group) (ceiling : Option ℕ) : Type 0 where
   pub at : ℕ
   pub is : ceiling ≡ Some at
-  pub none : first_of gs limit at gs ≡ None
+  pub none : first_fault_of gs limit at gs ≡ None
 
-none_under : (gs : List Group) (limit ceiling : ℕ) → first_under gs limit ceiling ≡ None → first_of gs limit ceiling gs ≡ None
-none_under gs limit ceiling h = by (is_on_disk gs 1) (has_first_user gs) h
+none_under : (gs : List Group) (limit ceiling : ℕ) → first_under gs limit ceiling ≡ None → first_fault_of gs limit ceiling gs ≡ None
+none_under gs limit ceiling h = by (group_is_on_disk gs 1) (has_first_user gs) h
   where
-    by : (a b : Bool) → cond (not a) (Some (1, 0)) (cond (not b) (Some (2, 0)) (first_of gs limit ceiling gs)) ≡ None → first_of gs limit ceiling gs ≡ None
+    by : (a b : Bool) → cond (not a) (Some (1, 0)) (cond (not b) (Some (2, 0)) (first_fault_of gs limit ceiling gs)) ≡ None → first_fault_of gs limit ceiling gs ≡ None
     by true true h = h
     by true false h = absurd cc
     by false b h = absurd cc
 
-none_by : (gs : List Group) (limit : ℕ) (ceiling : Option ℕ) → first_by gs limit ceiling ≡ None → HasNone limit gs ceiling
+none_by : (gs : List Group) (limit : ℕ) (ceiling : Option ℕ) → first_fault_by gs limit ceiling ≡ None → HasNone limit gs ceiling
 none_by gs limit None h = absurd cc
 none_by gs limit (Some n) h = record { at = n; is = refl; none = none_under gs limit n h }
 
-pub none_of : (limit : ℕ) (parts : List Change) → first_fault limit parts ≡ None → HasNone limit (groups parts) (ceiling_in (parts_of ceiling_key parts))
+pub none_of : (limit : ℕ) (parts : List Change) → first_fault limit parts ≡ None → HasNone limit (groups parts) (ceiling_in (parts_of_number ceiling_key parts))
 unfolding store_fault
-none_of limit parts none = none_by (groups parts) limit (ceiling_in (parts_of ceiling_key parts)) none
+none_of limit parts none = none_by (groups parts) limit (ceiling_in (parts_of_number ceiling_key parts)) none
 
 -- the objects that they hold
-pub stored_kept : (limit : ℕ) (parts : List Change) → AreParts parts → first_fault limit parts ≡ None → AllByRecursion (IsKept limit (ceiling_of parts)) (stored_in limit parts)
+pub stored_kept : (limit : ℕ) (parts : List Change) → AreParts parts → first_fault limit parts ≡ None → AllByRecursion (IsKept limit (ceiling_of parts)) (objects_stored_in limit parts)
 stored_kept limit parts are fault =
     let gs = groups parts in
     let ceiling = ceiling_of parts in
     let found = none_of limit parts fault in
     let at : ceiling ≡ found.at = ap (λ (o : Option ℕ). unwrap_or o 0) found.is in
-    let none : first_of gs limit ceiling gs ≡ None = subst (λ (n : ℕ). first_of gs limit n gs ≡ None) (sym at) found.none in
+    let none : first_fault_of gs limit ceiling gs ≡ None = subst (λ (n : ℕ). first_fault_of gs limit n gs ≡ None) (sym at) found.none in
     all_kept gs limit ceiling (all_whole gs limit ceiling gs none) (groups_given parts are.fine are.objects)

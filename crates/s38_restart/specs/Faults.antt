@@ -1,7 +1,7 @@
 -- Why a store is not restarted.
 use Rattle.std.specs.Prelude.{◌≡◌, ℕ, List, Option, Some}
 use Rattle.s38_base.specs.declared.page.Change.{Change}
-use Rattle.s38_groups.specs.Stores.{first_fault}
+use Rattle.s38_restart.specs.catalog.Stores.{first_fault}
 use Rattle.s38_image.specs.declared.fault.ImageFault.{ImageFault}
 use Rattle.s38_image.specs.declared.fault.ImageFault.TheVariants as images
 use Rattle.s38_restart.specs.Parts.{AreParts}

@@ -4,3 +4,4 @@ pub mod Parts
 pub mod Redo
 pub mod Removing
 pub mod Restarted
+pub mod catalog

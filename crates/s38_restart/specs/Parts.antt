@@ -5,9 +5,9 @@ use Rattle.s38_base.specs.Limits.{page_bytes}
 use Rattle.s38_base.specs.declared.page.Change.{Change}
 use Rattle.s38_base.specs.declared.page.Key.{Key}
 use Rattle.s38_base.specs.declared.page.Page.{Page}
-use Rattle.s38_codecs.specs.Codec.{AreBytes}
+use Rattle.s38_codec.specs.Codec.{AreBytes}
 use Rattle.s38_image.specs.Fitting.{AreFine}
-use Rattle.s38_image.specs.Pages.{bytes_of}
+use Rattle.s38_image.specs.Pages.{bytes_of_page}
 use Rattle.s38_vault.specs.Content.{AreRising, Content, HaveObjects}
 
 abbrev pub part_of : Key × Page → Change
@@ -23,9 +23,9 @@ key_before keys zero = None
 key_before keys (suc i) = slice_get keys i
 
 -- a page that is put has 512 bytes
-pub record IsFine (c : Change) : Type 0 where
-  pub whole : is_some c.page ≡ true → length (bytes_of c.page) ≡ page_bytes
-  pub bytes : AreBytes (bytes_of c.page)
+pub record HasWholePage (c : Change) : Type 0 where
+  pub whole : is_some c.page ≡ true → length (bytes_of_page c.page) ≡ page_bytes
+  pub bytes : AreBytes (bytes_of_page c.page)
 
 -- parts as a store may have them: of rising keys, none of object 0, and each page has 512 bytes
 pub record AreParts (parts : List Change) : Type 0 where

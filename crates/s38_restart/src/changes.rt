@@ -1,8 +1,8 @@
-//! One entry of a journal, done again on its data space.
+//! One entry of a journal, replayed on its data space.
 ghost use Rattle.std.specs.Prelude.{◌≡◌, ◌+◌, ◌-◌, ◌&&◌, ◌==◌, ◌≤◌, OnOk, OnErr, Some, length, max};
-ghost use Rattle.s38_dataspaces.specs.Table.{image_size, is_entry_of};
-ghost use Rattle.s38_journals.specs.Entries.{entered};
-ghost use Rattle.s38_restart.specs.Redo.{change_redone, delete_redone, insert_redone, may_stand_at, update_redone, with_deleted};
+ghost use Rattle.s38_dataspaces.specs.Table.{data_space_image_size, is_entry_of};
+ghost use Rattle.s38_journals.specs.Entries.{logged_entry};
+ghost use Rattle.s38_restart.specs.Redo.{change_redone, delete_redone, insert_redone, may_hold_at, update_redone, with_deleted};
 
 use s38_base::NoMemory;
 use s38_base::limits::BODY_LIMIT;
@@ -18,17 +18,17 @@ fn is_entry(space: &DataSpace, entry: &[u8]) -> bool
 
 /// How many bytes the image has with so many ordinals.
 fn image_len(space: &DataSpace, ordinals: u32) -> u64
-    ensures { result ≡ image_size space.now.fields ordinals }
+    ensures { result ≡ data_space_image_size space.now.fields ordinals }
 {
     let fields = space.fields().len() as u64;
     let slot = 1 + space.entry_len() as u64;
     22 + 3 * fields + u64::from(ordinals) * slot
 }
 
-/// Whether an entry may stand under an ordinal: it is one of the fields, and the image with that ordinal is no longer than
+/// Whether an ordinal may hold an entry: it is one of the fields, and the image with that ordinal is no longer than
 /// the limit of a body.
-fn may_stand_at(space: &DataSpace, at: u32, entry: &[u8]) -> bool
-    ensures { result ≡ may_stand_at space.now at entry.now }
+fn may_hold_at(space: &DataSpace, at: u32, entry: &[u8]) -> bool
+    ensures { result ≡ may_hold_at space.now at entry.now }
 {
     is_entry(space, entry) && image_len(space, at.max(space.ordinals())) <= u64::from(BODY_LIMIT)
 }
@@ -46,18 +46,18 @@ fn add_deleted(space: &mut DataSpace, at: u32) -> Result<(), NoMemory>
     Ok(())
 }
 
-/// An insert, done again; an ordinal before it that is not there yet is a deleted one.
+/// Replays an insert; an ordinal before it that is not there yet is a deleted one.
 fn redo_insert(space: &mut DataSpace, at: u32, after: &[u8]) -> Result<(), NoMemory>
     ensures { OnOk result (space.new ≡ insert_redone space.old at after.now) }
 {
-    if may_stand_at(space, at, after) {
+    if may_hold_at(space, at, after) {
         add_deleted(space, at)?;
         space.restore(at, Some(after));
     }
     Ok(())
 }
 
-/// An update, done again, if an entry stands there.
+/// Replays an update, if there is an entry.
 fn redo_update(space: &mut DataSpace, at: u32, after: &[u8])
     ensures { space.new ≡ update_redone space.old at after.now }
 {
@@ -66,7 +66,7 @@ fn redo_update(space: &mut DataSpace, at: u32, after: &[u8])
     }
 }
 
-/// A delete, done again, if an entry stands there.
+/// Replays a delete, if there is an entry.
 fn redo_delete(space: &mut DataSpace, at: u32)
     ensures { space.new ≡ delete_redone space.old at }
 {
@@ -75,7 +75,7 @@ fn redo_delete(space: &mut DataSpace, at: u32)
     }
 }
 
-/// What an entry says was done, done again. What does not fit is passed over.
+/// Replays what an entry says was done. What does not fit is passed over.
 pub fn redo_entry(space: &mut DataSpace, entry: &JournalEntry) -> Result<(), NoMemory>
     ensures { OnOk result (space.new ≡ change_redone entry.now.kind space.old entry.now.ordinal entry.now.after.now) }
 {

@@ -1,6 +1,6 @@
-//! Which units of changes were committed behind an image.
+//! Which units of changes were committed after an image.
 ghost use Rattle.std.specs.Prelude.{◌≡◌, ◌+◌, ◌&&◌, ◌||◌, ◌≤◌, ◌<◌, ℕ, IfOk, drop, false, get_or, length, nat_lt};
-ghost use Rattle.s38_journals.specs.Entries.{entered};
+ghost use Rattle.s38_journals.specs.Entries.{logged_entry};
 ghost use Rattle.s38_restart.specs.Committed.{AreCommitted};
 ghost use Rattle.s38_restart.specs.Redo.{commits, is_commit, is_committed};
 
@@ -8,8 +8,8 @@ use s38_base::NoMemory;
 use s38_journals::{EntryKind, Journal, JournalEntry};
 use std::alloc::Global;
 
-/// Whether an entry lies behind an image and commits its unit.
-fn is_commit_behind(image: u64, sequence: u64, entry: &JournalEntry) -> bool
+/// Whether an entry lies after an image and commits its unit.
+fn is_commit_after(image: u64, sequence: u64, entry: &JournalEntry) -> bool
     ensures { result ≡ nat_lt image sequence && is_commit entry.now.kind }
 {
     image < sequence && matches!(entry.kind, EntryKind::Commit)
@@ -19,9 +19,9 @@ fn is_commit_behind(image: u64, sequence: u64, entry: &JournalEntry) -> bool
 fn mark(marks: &mut Vec<bool>, image: u64, sequence: u64, entry: &JournalEntry)
     requires { entry.now.unit < length marks.old.items }
     ensures len { length marks.new.items ≡ length marks.old.items }
-    ensures marks { (unit : ℕ) → get_or marks.new.items unit false ≡ (commits image unit sequence (entered entry.now) || get_or marks.old.items unit false) }
+    ensures marks { (unit : ℕ) → get_or marks.new.items unit false ≡ (commits image unit sequence (logged_entry entry.now) || get_or marks.old.items unit false) }
 {
-    if is_commit_behind(image, sequence, entry) {
+    if is_commit_after(image, sequence, entry) {
         marks[entry.unit as usize] = true;
     }
 }
@@ -42,7 +42,7 @@ fn mark_at(marks: &mut Vec<bool>, image: u64, journal: &Journal, at: u64)
     mark(marks, image, at + 1, &entry);
 }
 
-/// Of each unit whether its COMMIT entry lies behind the image of a data space, which counts the journal space in up to
+/// Of each unit whether its COMMIT entry lies after the image of a data space, which counts the journal space in up to
 /// this sequence.
 pub fn committed_units(alloc: Global, image: u64, journal: &Journal) -> Result<Vec<bool>, NoMemory>
     ensures { IfOk result (λ marks. AreCommitted image journal.now.entries marks.items) }

@@ -1,17 +1,17 @@
 //! How many pages a store has of each object that it keeps.
 ghost use Rattle.std.specs.Prelude.{◌≡◌, All, IfOk, map};
-ghost use Rattle.s38_durable.specs.Following.{extent_in};
-ghost use Rattle.s38_rules.specs.Room.{extent_of};
-ghost use Rattle.s38_rules.specs.Storable.{IsStorable};
+ghost use Rattle.s38_durable_state.specs.Following.{extent_in};
+ghost use Rattle.s38_rules.specs.store.Room.{extent_of};
+ghost use Rattle.s38_rules.specs.store.Storable.{IsStorable};
 
 use s38_base::NoMemory;
-use s38_extents::{Extent, pages_begun, pages_of_rows};
 use s38_image::Stored;
-use s38_image_printing::image_len;
+use s38_image_writer::image_len;
 use s38_rules::Object;
+use s38_space_map::{Extent, pages_begun, pages_of_rows};
 use std::alloc::Global;
 
-/// The extent of an object as it stands.
+/// The extent of an object as it is now.
 fn extent_of(object: &Object) -> Extent
     requires { IsStorable object.now }
     ensures { result ≡ extent_of object.now }

@@ -2,16 +2,17 @@
 ghost use Rattle.std.specs.Prelude.{◌≡◌, ◌<◌, IfOk, OnOk, Some, length, map, slice_get, slice_set};
 ghost use Rattle.std.specs.List.Sorted.{IsStrictlyIncreasing};
 ghost use Rattle.std.specs.Option.{option_copied, option_map};
-ghost use Rattle.s38_groups.specs.Readings.{object_in_stored};
+ghost use Rattle.s38_restart.specs.catalog.Readings.{object_in_stored};
 ghost use Rattle.s38_image.specs.declared.stored.Stored.{Stored as Kept};
-ghost use Rattle.s38_rules.specs.Held.{object as object_at};
-ghost use Rattle.s38_rules.specs.Journaling.{journal_behind};
-ghost use Rattle.s38_rules.specs.Parts.{data_part, journal_at, over_body, over_table, part_at};
-ghost use Rattle.s38_restart.specs.Restarted.{all_followed, data_followed, imaged, number_in_stored, table_behind, with_followed};
+ghost use Rattle.s38_rules.specs.state.Held.{object as object_at};
+ghost use Rattle.s38_rules.specs.state.Journaling.{journal_of_port};
+ghost use Rattle.s38_rules.specs.state.Parts.{data_part, over_body, part_at};
+ghost use Rattle.s38_rules.specs.state.PartsAt.{journal_at, over_table};
+ghost use Rattle.s38_restart.specs.Restarted.{all_followed, data_followed, imaged, number_in_stored, table_followed, with_followed};
 
 use crate::journaled::redo;
+use crate::place_of;
 use s38_base::{NoMemory, ObjNum};
-use s38_groups::place_of;
 use s38_image::Stored;
 use s38_journals::Journal;
 use s38_rules::{Body, BodyPart, DataBody, Object, Port};
@@ -53,11 +54,11 @@ fn part_at<'a, P: BodyPart>(numbers: &[u64], stored: &'a [Stored], number: u64) 
     }
 }
 
-/// The journal space behind a port, if both are there.
-fn journal_behind<'a>(numbers: &[u64], stored: &'a [Stored], port: ObjNum) -> Option<&'a Journal>
+/// The journal space that a port names, if both are there.
+fn journal_of_port<'a>(numbers: &[u64], stored: &'a [Stored], port: ObjNum) -> Option<&'a Journal>
     requires numbers { numbers.now ≡ map number_in_stored stored.now }
     requires rising { IsStrictlyIncreasing numbers.now }
-    ensures { option_copied result ≡ option_map (journal_at (imaged stored.now)) (journal_behind (imaged stored.now) port.0) }
+    ensures { option_copied result ≡ option_map (journal_at (imaged stored.now)) (journal_of_port (imaged stored.now) port.0) }
 {
     match part_at::<Port>(numbers, stored, port.0) {
         Some(port) => part_at::<Journal>(numbers, stored, port.journal.0),
@@ -73,7 +74,7 @@ fn follow_data(
     image: u64,
     journal: Option<&Journal>,
 ) -> Result<(), NoMemory>
-    ensures { OnOk result (held.new ≡ over_table (table_behind number.0 image (option_copied journal.entry)) held.old) }
+    ensures { OnOk result (held.new ≡ over_table (table_followed number.0 image (option_copied journal.entry)) held.old) }
 {
     match journal {
         Some(journal) => redo(alloc, &mut held.space, number, image, journal),
@@ -96,7 +97,7 @@ fn follow_body(
 {
     match body {
         Body::DataSpace(held) => {
-            let journal = journal_behind(numbers, stored, held.port);
+            let journal = journal_of_port(numbers, stored, held.port);
             follow_data(alloc, held, number, image, journal)
         }
         _ => Ok(()),

@@ -1,8 +1,8 @@
-//! The entries of a journal space, done again on the image of a data space.
+//! The entries of a journal space, replayed on the image of a data space.
 ghost use Rattle.std.specs.Prelude.{◌≡◌, ◌+◌, ◌<◌, OnOk, drop, length};
-ghost use Rattle.s38_journals.specs.Entries.{entered};
+ghost use Rattle.s38_journals.specs.Entries.{logged_entry};
 ghost use Rattle.s38_restart.specs.Committed.{AreCommitted};
-ghost use Rattle.s38_restart.specs.Redo.{counts, entry_redone, redone, redone_from};
+ghost use Rattle.s38_restart.specs.Redo.{counts, entry_redone, journal_replayed, redone_from};
 
 use crate::changes::redo_entry;
 use crate::committed::committed_units;
@@ -37,7 +37,7 @@ fn redo_counted(
     entry: &JournalEntry,
 ) -> Result<(), NoMemory>
     requires { AreCommitted image journal.now.entries committed.now }
-    ensures { OnOk result (space.new ≡ entry_redone number.0 image journal.now.entries sequence (entered entry.now) space.old) }
+    ensures { OnOk result (space.new ≡ entry_redone number.0 image journal.now.entries sequence (logged_entry entry.now) space.old) }
 {
     if entry.object.0 == number.0 && counts(journal, committed, image, sequence, entry.unit) {
         redo_entry(space, entry)
@@ -69,7 +69,7 @@ fn redo_at(
 }
 
 /// Follows the image of the data space of a number by the entries of its journal space; the image counts them in up to a
-/// sequence. Of unit 0 those behind the image are done again, and all of each unit whose COMMIT entry lies behind it. What
+/// sequence. Of unit 0 those after the image are replayed, and all of each unit whose COMMIT entry lies after it. What
 /// does not fit is passed over. `NoMemory` if memory was refused; then the data space is some way on.
 pub fn redo(
     alloc: Global,
@@ -78,7 +78,7 @@ pub fn redo(
     image: u64,
     journal: &Journal,
 ) -> Result<(), NoMemory>
-    ensures { OnOk result (space.new ≡ redone number.0 image journal.now.entries space.old) }
+    ensures { OnOk result (space.new ≡ journal_replayed number.0 image journal.now.entries space.old) }
 {
     let committed = committed_units(alloc, image, journal)?;
     for at in 0..journal.last() {

@@ -1,7 +1,8 @@
-//! Restart: what a store kept is made again. All parts of a store are read, each data space is made of its image and of its
-//! journal space, and the parts that belong to nothing are taken away; the extent of each object as it is kept is told.
+//! Restart: what a store kept is made again. All parts of a store are read, each data space is made from its image and its
+//! journal space, and the orphan pages are taken away; the extent of each object as it is kept is told.
 #![tactic(auto)]
 
+pub mod catalog;
 mod changes;
 mod committed;
 mod extents;
@@ -12,6 +13,7 @@ mod reading;
 mod removing;
 mod restarting;
 
+pub use catalog::{Store, place_of, store_of};
 pub use fault::RestartFault;
 pub use journaled::redo;
 pub use reading::read_parts;

@@ -2,9 +2,9 @@
 ghost use Rattle.std.specs.Prelude.{◌≡◌, ◌↔◌, ◌⊎◌, ◌<◌, ◌≤◌, ◌+◌, ℕ, IfErr, IfOk, OnOk, Some, length, slice_get};
 ghost use Rattle.std.specs.FinMap.{contains_key, get, keys};
 ghost use Rattle.s38_base.specs.Faults.{HasCauseOf};
-ghost use Rattle.s38_codecs.specs.Codec.{AreBytes};
+ghost use Rattle.s38_codec.specs.Codec.{AreBytes};
 ghost use Rattle.s38_image.specs.Fitting.{AreFine};
-ghost use Rattle.s38_restart.specs.Parts.{IsFine, all_parts};
+ghost use Rattle.s38_restart.specs.Parts.{HasWholePage, all_parts};
 ghost use Rattle.s38_restart.specs.declared.fault.RestartFault.TheVariants as RestartFault;
 ghost use Rattle.s38_vault.specs.Content.{AreRising, Content, HaveObjects};
 
@@ -28,7 +28,7 @@ fn page_put(key: Key, page: Page) -> Change
 /// The page of a part, or none.
 fn part_of(key: Key, page: Option<Page>) -> Change
     ensures part { result ≡ record { key = key; page = page } }
-    ensures fine { IsFine result }
+    ensures fine { HasWholePage result }
 {
     match page {
         Some(page) => page_put(key, page),
@@ -40,7 +40,7 @@ fn part_of(key: Key, page: Option<Page>) -> Change
 fn read_part<V: Vault>(vault: &mut V, key: Key) -> Result<Change, RestartFault>
     ensures key { IfOk result (λ part. part.key ≡ key) }
     ensures part { IfOk result (λ part. (m : Content) → V.holds vault.old m → part ≡ record { key = key; page = get m key }) }
-    ensures fine { IfOk result (λ part. IsFine part) }
+    ensures fine { IfOk result (λ part. HasWholePage part) }
     ensures failed { IfErr result (λ fault. fault ≡ RestartFault.Failed) }
     ensures holds { (m : Content) → V.holds vault.old m ↔ V.holds vault.new m }
     ensures past { (t : ℕ) (m : Content) → t ≤ (V.view vault.old).moment → V.leaves vault.old t m ↔ V.leaves vault.new t m }

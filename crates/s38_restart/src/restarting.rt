@@ -2,9 +2,9 @@
 ghost use Rattle.std.specs.Prelude.{◌≡◌, ◌≢◌, ◌⊎◌, ◌≤◌, ◌<◌, ◌↔◌, ℕ, List, [], None, IfErr, IfOk, IsErrOf, OnOk, length, take};
 ghost use Rattle.s38_base.specs.Faults.{HasCauseOf};
 ghost use Rattle.s38_base.specs.declared.page.Change.{Change as Part};
-ghost use Rattle.s38_extents.specs.Extents.{AreRising as AreExtents};
-ghost use Rattle.s38_groups.specs.Groups.{removals as strays};
-ghost use Rattle.s38_groups.specs.Stores.{first_fault};
+ghost use Rattle.s38_space_map.specs.Extents.{AreRising as AreExtents};
+ghost use Rattle.s38_restart.specs.catalog.Groups.{removals as strays};
+ghost use Rattle.s38_restart.specs.catalog.Stores.{first_fault};
 ghost use Rattle.s38_restart.specs.Faults.{NamesFault, NamesFirst};
 ghost use Rattle.s38_restart.specs.Parts.{AreParts, all_parts};
 ghost use Rattle.s38_restart.specs.Removing.{AreRemovals};
@@ -17,10 +17,10 @@ use crate::fault::RestartFault;
 use crate::following::followed;
 use crate::reading::read_parts;
 use crate::removing::remove_all;
+use crate::store_of;
 use s38_base::Change;
-use s38_extents::Extent;
-use s38_groups::store_of;
 use s38_objects::Objects;
+use s38_space_map::Extent;
 use s38_vault::Vault;
 use std::alloc::Global;
 
@@ -33,8 +33,8 @@ pub struct Restarted {
     pub extents: Vec<Extent>,
 }
 
-/// What all parts of a store make: the object map with the extents, and the changes that take away each part that belongs
-/// to nothing.
+/// What all parts of a store make: the object map with the extents, and the changes that take away each orphan
+/// page.
 #[derive(Drop)]
 struct Restored {
     store: Restarted,
@@ -91,8 +91,9 @@ fn remove<V: Vault>(vault: &mut V, changes: &[Change]) -> Result<(), RestartFaul
 }
 
 /// Makes the object map of all that a store keeps: each object as its image has it, and each data space followed by its
-/// journal space. With it the extent of each object as it is kept is given. The parts that belong to nothing are taken away; nothing is put where there is none. `BadImage` exactly
-/// where a part is at fault; it names the first one. A crash on the way leaves some of those parts.
+/// journal space. With it the extent of each object as it is kept is given. The orphan pages are taken away; nothing is put
+/// where there is none. `BadImage` exactly where a part is at fault; it names the first one. A crash on the way leaves some of
+/// the orphan pages.
 pub fn restart<V: Vault>(alloc: Global, vault: &mut V) -> Result<Restarted, RestartFault>
     // The objects and their extents are those of the parts that were read, and these have no fault. They are the ones that the
     // vault tells.
@@ -107,7 +108,7 @@ pub fn restart<V: Vault>(alloc: Global, vault: &mut V) -> Result<Restarted, Rest
     ensures bad { IfErr result (λ fault. (m : Content) → V.holds vault.old m → NamesFirst (first_fault (V.view vault.old).shape.body_limit (all_parts m)) fault) }
     ensures untold { IfErr result (λ fault. NamesFault (V.view vault.old).shape.body_limit fault) }
 
-    // What belongs to nothing is taken away, part by part; nothing is, unless the objects are answered or the vault failed.
+    // The orphan pages are taken away, one by one; none is, unless the objects are answered or the vault failed.
     ensures holds { OnOk result ((m : Content) → V.holds vault.old m → V.holds vault.new (changed m (strays (all_parts m)))) }
     ensures kept { IfErr result (λ fault. fault ≢ RestartFault.Failed → (m : Content) → V.holds vault.old m ↔ V.holds vault.new m) }
     ensures still { IfErr result (λ fault. fault ≢ RestartFault.Failed → V.view vault.new ≡ record (V.view vault.old) { faults = (V.view vault.new).faults; spare = (V.view vault.new).spare }) }

@@ -14,7 +14,7 @@ use Rattle.s38_base.specs.declared.id.ObjNum.{ObjNum}
 use Rattle.s38_rules.specs.declared.object.Body.{Body}
 use Rattle.s38_rules.specs.declared.object.Body.TheVariants as bodies
 use Rattle.s38_rules.specs.declared.object.Object.{Object}
-use Rattle.s38_rules.specs.Held.{change_in, charge_beside, charge_in, object_in, owner_in, pages_for, pages_of, without_in}
+use Rattle.s38_rules.specs.state.Held.{change_in, charge_beside, charge_in, object_in, owner_in, pages_for, pages_of, without_in}
 
 abbrev pub number_of : Object → ℕ
 number_of o = o.number.0

@@ -22,30 +22,30 @@ use Rattle.s38_rules.specs.declared.process.ProcessEntry.{ProcessEntry}
 use Rattle.s38_rules.specs.declared.process.Started.{Started}
 use Rattle.s38_rules.specs.declared.verdict.Verdict.{Verdict}
 use Rattle.s38_rules.specs.declared.verdict.Verdict.TheVariants.{Permit, Wait, Refuse}
-use Rattle.s38_rules.specs.Changes.{Changes, Stays, Entered, Framed, Committed, Decommitted, Then, done}
-use Rattle.s38_rules.specs.Computing.{receiver_at, shift_at}
-use Rattle.s38_rules.specs.Contexts.{contexts_row}
-use Rattle.s38_rules.specs.Changing.{logged, logged_in}
-use Rattle.s38_rules.specs.DataSpaces.{data_spaces_row}
-use Rattle.s38_rules.specs.Journaling.{journal_for}
-use Rattle.s38_rules.specs.Journals.{journals_row}
-use Rattle.s38_rules.specs.Locking.{locks_row}
-use Rattle.s38_rules.specs.Effect.{effect, effect_of, start_at, end_at}
-use Rattle.s38_rules.specs.Instruction.{AreKept, Instruction, unstacked}
-use Rattle.s38_rules.specs.Invocations.{restack, restack_at, restacked, with_stack}
-use Rattle.s38_rules.specs.Legal.{AreMoments, IsEntry, IsProcess, IsSound, IsStored, Leads, Run, after, after_by, begun, history_after}
-use Rattle.s38_rules.specs.Operands.{deliver, delivered}
-use Rattle.s38_rules.specs.Programs.{programs_row}
-use Rattle.s38_rules.specs.Indexes.{indexes_row}
-use Rattle.s38_rules.specs.Queues.{queues_row}
-use Rattle.s38_rules.specs.Resolving.{resolving_row}
-use Rattle.s38_rules.specs.Rows.{row}
-use Rattle.s38_rules.specs.Spaces.{spaces_row}
-use Rattle.s38_rules.specs.State.{State, process_entry, waits}
+use Rattle.s38_rules.specs.families.Changes.{Changes, Committed, Decommitted, Entered, Framed, Stays, Then, done}
+use Rattle.s38_rules.specs.families.Computing.{receiver_at, shift_at}
+use Rattle.s38_rules.specs.families.Contexts.{contexts_row}
+use Rattle.s38_rules.specs.families.Changing.{logged, logged_in}
+use Rattle.s38_rules.specs.families.DataSpaces.{data_spaces_row}
+use Rattle.s38_rules.specs.state.Journaling.{journal_for}
+use Rattle.s38_rules.specs.families.Journals.{journals_row}
+use Rattle.s38_rules.specs.families.Locking.{locks_row}
+use Rattle.s38_rules.specs.step.Effect.{effect, effect_of, start_at, end_at}
+use Rattle.s38_rules.specs.families.Instruction.{AreKept, Instruction, unstacked}
+use Rattle.s38_rules.specs.state.Invocations.{restack, restack_at, restacked, with_stack}
+use Rattle.s38_rules.specs.step.Legal.{AreMoments, IsEntry, IsProcess, IsSound, IsStored, Leads, Run, after, after_by, begun, history_after}
+use Rattle.s38_rules.specs.ask.Receivers.{deliver, delivered}
+use Rattle.s38_rules.specs.families.Programs.{programs_row}
+use Rattle.s38_rules.specs.families.Indexes.{indexes_row}
+use Rattle.s38_rules.specs.families.Queues.{queues_row}
+use Rattle.s38_rules.specs.families.Resolving.{resolving_row}
+use Rattle.s38_rules.specs.families.Rows.{row}
+use Rattle.s38_rules.specs.families.Spaces.{spaces_row}
+use Rattle.s38_rules.specs.state.State.{State, process_entry, waits}
 use Rattle.s38_rules.proofs.StoreLaws.{stored_beside}
-use Rattle.s38_rules.specs.Step.{step, by_verdict, by_waiting}
-use Rattle.s38_rules.specs.Units.{all_decommitted, committed, decommitted, decommitted_of}
-use Rattle.s38_rules.specs.Step.{awake_verdict}
+use Rattle.s38_rules.specs.step.Step.{step, by_verdict, by_waiting}
+use Rattle.s38_rules.specs.families.Units.{all_decommitted, committed, decommitted, decommitted_of}
+use Rattle.s38_rules.specs.step.Step.{awake_verdict}
 
 -- entries that lead somewhere, and one more from there
 pub leads_more : (s : State) (before es : List Entry) (t : State) (e : Entry) → Leads s before es t → IsEntry t (before ++ es) e → Leads s before (es ++ e ∷ []) (step t e.process e.event).state
@@ -149,7 +149,7 @@ restack_kept f s p (Some x) h = record {
 restacks : (f : List ObjNum → List ObjNum) (s : State) (p : ℕ) → AreKept p s.processes (restack f s p).processes
 restacks f s p = restack_kept f s p (process_entry s p) refl
 
--- one change behind another
+-- one change after another
 kept_then : (p : ℕ) (xs ys zs : List ProcessEntry) → AreKept p xs ys → AreKept p ys zs → AreKept p xs zs
 kept_then p xs ys zs a b = record { stays = b.stays ∙ a.stays; others = λ k d away. b.others k d away ∙ a.others k d away }
 

@@ -11,10 +11,12 @@ use Rattle.s38_code.specs.declared.operand.Operand.{Operand}
 use Rattle.s38_code.specs.declared.operand.Operand.TheVariants as operands
 use Rattle.s38_locks.specs.Table.{Table}
 use Rattle.s38_rules.specs.declared.need.Need.{Need}
-use Rattle.s38_rules.specs.Blocking.{item_lock, use_rule}
-use Rattle.s38_rules.specs.Needs.{first_of}
-use Rattle.s38_rules.specs.State.{State}
-use Rattle.s38_rules.specs.Verdict.{by_operand, category_rule, lock_rule, lock_rules, needs_rule, stands_at, subject}
+use Rattle.s38_rules.specs.ask.Blocking.{item_lock, use_rule}
+use Rattle.s38_rules.specs.ask.Needs.{first_of}
+use Rattle.s38_rules.specs.state.State.{State}
+use Rattle.s38_rules.specs.step.Verdict.{category_rule, lock_rule, lock_rules}
+use Rattle.s38_rules.specs.ask.RightsRules.{subject}
+use Rattle.s38_rules.specs.ask.AddressRules.{by_operand, is_of_operand, needs_rule}
 
 free_use : (locks : Table) → (length locks == 0) ≡ true → (p operand n : ℕ) (category : Category) → use_rule locks p operand n category ≡ None
 unfolding use_rule
@@ -51,11 +53,11 @@ none_of rule [] h = refl
 none_of rule (need ∷ more) h = neither (rule need) (first_of rule more) (h need) (none_of rule more h)
 
 none_by_operand : (itself : ℕ → Operand → Option Exception) (rule : Need → Option Exception) (wanted : List Need) (k : ℕ) (ops : List Operand) → ((k : ℕ) (operand : Operand) → itself k operand ≡ None) → ((need : Need) → rule need ≡ None) → by_operand itself rule wanted k ops ≡ None
-none_by_operand itself rule wanted k [] item h = none_of rule (filter (stands_at 0) wanted) h
+none_by_operand itself rule wanted k [] item h = none_of rule (filter (is_of_operand 0) wanted) h
 none_by_operand itself rule wanted k (operand ∷ more) item h =
     let at = min k last_operand in
     neither (itself at operand) (first (needs_rule rule wanted at) (by_operand itself rule wanted (k + 1) more)) (item at operand)
-    (neither (needs_rule rule wanted at) (by_operand itself rule wanted (k + 1) more) (none_of rule (filter (stands_at at) wanted) h)
+    (neither (needs_rule rule wanted at) (by_operand itself rule wanted (k + 1) more) (none_of rule (filter (is_of_operand at) wanted) h)
     (none_by_operand itself rule wanted (k + 1) more item h))
 
 -- no lock is in the way of an instruction

@@ -6,8 +6,9 @@ use Rattle.s38_base.specs.declared.id.ObjNum.{ObjNum}
 use Rattle.s38_rules.proofs.ChargeLaws.{KeepsNumber, object_changed}
 use Rattle.s38_rules.specs.declared.object.Object.{Object}
 use Rattle.s38_rules.specs.declared.object.Body.{Body}
-use Rattle.s38_rules.specs.Held.{Held, change_in, has_number, object_in}
-use Rattle.s38_rules.specs.Parts.{IsPart, Part, over, over_body, over_object, over_part, part_at, part_in}
+use Rattle.s38_rules.specs.state.Held.{Held, change_in, has_number, object_in}
+use Rattle.s38_rules.specs.state.Parts.{Part, over, over_body, over_object, over_part, part_at, part_in}
+use Rattle.s38_rules.specs.state.LawfulParts.{IsPart}
 
 body_written : {T : Type 0} (p : Part T) (f : T → T) (x : T) (b : Body) → p.of b ≡ Some x → over_body p (λ _. f x) b ≡ over_body p f b
 body_written p f x b h = ap (over p (λ _. f x) b) h ∙ sym (ap (over p f b) h)

@@ -8,18 +8,12 @@ use Rattle.s38_code.specs.declared.event.Event.TheVariants.{Finish}
 use Rattle.s38_rules.specs.declared.object.Object.{Object}
 use Rattle.s38_rules.specs.declared.verdict.Verdict.{Verdict}
 use Rattle.s38_rules.specs.declared.verdict.Verdict.TheVariants.{Permit, Wait, Refuse}
-use Rattle.s38_rules.specs.Effect.{effect_of}
-use Rattle.s38_rules.specs.Forcing.{forced, store_rule, with_room}
-use Rattle.s38_rules.specs.Room.{Room}
-use Rattle.s38_rules.specs.State.{State}
-use Rattle.s38_rules.specs.Step.{awake_verdict}
-use Rattle.s38_rules.specs.Verdict.{of_failure, ruled_verdict}
-
--- without a store the rules decide alone
-pub unlimited : (s : State) (p : ℕ) (e : Event) (v : Verdict) → s.room ≡ None → with_room s p e v ≡ v
-unlimited s p e Permit none = rw none refl
-unlimited s p e Wait none = refl
-unlimited s p e (Refuse x) none = refl
+use Rattle.s38_rules.specs.step.Effect.{effect_of}
+use Rattle.s38_rules.specs.store.Forcing.{must_persist, store_rule, with_room}
+use Rattle.s38_rules.specs.store.Room.{Room}
+use Rattle.s38_rules.specs.state.State.{State}
+use Rattle.s38_rules.specs.step.Step.{awake_verdict}
+use Rattle.s38_rules.specs.step.Verdict.{of_failure, ruled_verdict}
 
 unlimited_end : (o : Option Room) (os : List Object) → of_failure (store_rule o [] os) ≡ Permit
 unlimited_end None os = refl
@@ -27,7 +21,7 @@ unlimited_end (Some room) os = refl
 
 -- an end is always permitted
 pub end_permitted : (s : State) (p : ℕ) (cause : EndCause) → awake_verdict s p (Finish cause) ≡ Permit
-unfolding awake_verdict ruled_verdict forced
+unfolding awake_verdict ruled_verdict must_persist
 end_permitted s p cause = unlimited_end s.room (effect_of s p (Finish cause)).state.held.objects
 
 waits_not : (o : Option Exception) → of_failure o ≡ Wait → ⊥
@@ -35,7 +29,7 @@ waits_not None h = cc
 waits_not (Some x) h = cc
 
 waits_by : (s : State) (p : ℕ) (e : Event) (v : Verdict) → with_room s p e v ≡ Wait → v ≡ Wait
-waits_by s p e Permit h = absurd (waits_not (store_rule s.room (forced s p e) (effect_of s p e).state.held.objects) h)
+waits_by s p e Permit h = absurd (waits_not (store_rule s.room (must_persist s p e) (effect_of s p e).state.held.objects) h)
 waits_by s p e Wait h = refl
 waits_by s p e (Refuse x) h = cc
 

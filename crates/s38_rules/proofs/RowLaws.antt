@@ -6,7 +6,7 @@ use Rattle.std.specs.Prelude.{Some, find, nat_lt, slice_get, slice_set, if◌the
 use Rattle.s38_base.specs.declared.id.ObjNum.{ObjNum}
 use Rattle.s38_base.specs.declared.rights.Rights.{Rights}
 use Rattle.s38_rules.specs.declared.rows.PrivateRow.{PrivateRow}
-use Rattle.s38_rules.specs.PrivateRows.{AreRows, IsAbove, beside, count_before, is_at, is_of, is_row, rights_in, row_for, row_of, with_row}
+use Rattle.s38_rules.specs.state.PrivateRows.{AreRows, IsAbove, beside, count_before, is_of_user, is_row, rights_in, row_for, row_is_at, row_of, with_row}
 
 abbrev row_with : ObjNum → Rights → PrivateRow
 row_with user r = record { user = user; rights = r }
@@ -21,32 +21,32 @@ one_for : (user : ObjNum) (r : Rights) → r.0 ≢ 0 → row_for user r ≡ row_
 one_for user r h = rw (not_zero r.0 h) refl
 
 -- no row, and none is needed
-pub row_absent : (rows : List PrivateRow) (user : ObjNum) (r : Rights) → r.0 ≡ 0 → is_at rows (count_before rows user) user ≡ false → with_row rows user r ≡ rows
+pub row_absent : (rows : List PrivateRow) (user : ObjNum) (r : Rights) → r.0 ≡ 0 → row_is_at rows (count_before rows user) user ≡ false → with_row rows user r ≡ rows
 row_absent [] user r none off = none_for user r none
 row_absent (row ∷ rows) user r none off =
     let rest = row_absent rows user r none in
-    elim (nat_lt row.user.0 user.0) as (λ b. is_of user (slice_get (row ∷ rows) (cond b (suc (count_before rows user)) 0)) ≡ false → cond b (row ∷ with_row rows user r) (row_for user r ++ beside user row rows) ≡ row ∷ rows) [
+    elim (nat_lt row.user.0 user.0) as (λ b. is_of_user user (slice_get (row ∷ rows) (cond b (suc (count_before rows user)) 0)) ≡ false → cond b (row ∷ with_row rows user r) (row_for user r ++ beside user row rows) ≡ row ∷ rows) [
       | true ↦ λ g. ap (λ (l : List PrivateRow). row ∷ l) (rest g)
       | false ↦ λ g. rw (none_for user r none, g) refl
     ] off
 
 -- a row more
-pub row_inserted : (rows : List PrivateRow) (user : ObjNum) (r : Rights) → r.0 ≢ 0 → is_at rows (count_before rows user) user ≡ false → with_row rows user r ≡ take (count_before rows user) rows ++ row_with user r ∷ drop (count_before rows user) rows
+pub row_inserted : (rows : List PrivateRow) (user : ObjNum) (r : Rights) → r.0 ≢ 0 → row_is_at rows (count_before rows user) user ≡ false → with_row rows user r ≡ take (count_before rows user) rows ++ row_with user r ∷ drop (count_before rows user) rows
 row_inserted [] user r some off = one_for user r some
 row_inserted (row ∷ rows) user r some off =
     let rest = row_inserted rows user r some in
-    elim (nat_lt row.user.0 user.0) as (λ b. is_of user (slice_get (row ∷ rows) (cond b (suc (count_before rows user)) 0)) ≡ false → cond b (row ∷ with_row rows user r) (row_for user r ++ beside user row rows)
+    elim (nat_lt row.user.0 user.0) as (λ b. is_of_user user (slice_get (row ∷ rows) (cond b (suc (count_before rows user)) 0)) ≡ false → cond b (row ∷ with_row rows user r) (row_for user r ++ beside user row rows)
     ≡ take (cond b (suc (count_before rows user)) 0) (row ∷ rows) ++ row_with user r ∷ drop (cond b (suc (count_before rows user)) 0) (row ∷ rows)) [
       | true ↦ λ g. ap (λ (l : List PrivateRow). row ∷ l) (rest g)
       | false ↦ λ g. rw (one_for user r some, g) refl
     ] off
 
 -- a row less
-pub row_removed : (rows : List PrivateRow) (user : ObjNum) (r : Rights) → r.0 ≡ 0 → is_at rows (count_before rows user) user ≡ true → with_row rows user r ≡ take (count_before rows user) rows ++ drop (suc (count_before rows user)) rows
+pub row_removed : (rows : List PrivateRow) (user : ObjNum) (r : Rights) → r.0 ≡ 0 → row_is_at rows (count_before rows user) user ≡ true → with_row rows user r ≡ take (count_before rows user) rows ++ drop (suc (count_before rows user)) rows
 row_removed [] user r none on = cc
 row_removed (row ∷ rows) user r none on =
     let rest = row_removed rows user r none in
-    elim (nat_lt row.user.0 user.0) as (λ b. is_of user (slice_get (row ∷ rows) (cond b (suc (count_before rows user)) 0)) ≡ true → cond b (row ∷ with_row rows user r) (row_for user r ++ beside user row rows)
+    elim (nat_lt row.user.0 user.0) as (λ b. is_of_user user (slice_get (row ∷ rows) (cond b (suc (count_before rows user)) 0)) ≡ true → cond b (row ∷ with_row rows user r) (row_for user r ++ beside user row rows)
     ≡ take (cond b (suc (count_before rows user)) 0) (row ∷ rows) ++ drop (suc (cond b (suc (count_before rows user)) 0)) (row ∷ rows)) [
       | true ↦ λ g. ap (λ (l : List PrivateRow). row ∷ l) (rest g)
       | false ↦ λ g. rw (none_for user r none, g) refl
@@ -56,12 +56,12 @@ number_same : (a b : ℕ) → (a == b) ≡ true → a ≡ b
 number_same a b h = grind (arith, nat_tests)
 
 -- other rights in a row that is there
-pub row_replaced : (rows : List PrivateRow) (user : ObjNum) (r : Rights) → r.0 ≢ 0 → is_at rows (count_before rows user) user ≡ true
+pub row_replaced : (rows : List PrivateRow) (user : ObjNum) (r : Rights) → r.0 ≢ 0 → row_is_at rows (count_before rows user) user ≡ true
     → with_row rows user r ≡ slice_set rows (count_before rows user) (row_with user r)
 row_replaced [] user r some on = cc
 row_replaced (row ∷ rows) user r some on =
     let rest = row_replaced rows user r some in
-    elim (nat_lt row.user.0 user.0) as (λ b. is_of user (slice_get (row ∷ rows) (cond b (suc (count_before rows user)) 0)) ≡ true
+    elim (nat_lt row.user.0 user.0) as (λ b. is_of_user user (slice_get (row ∷ rows) (cond b (suc (count_before rows user)) 0)) ≡ true
     → cond b (row ∷ with_row rows user r) (row_for user r ++ beside user row rows) ≡ slice_set (row ∷ rows) (cond b (suc (count_before rows user)) 0) (row_with user r)) [
       | true ↦ λ g. ap (λ (l : List PrivateRow). row ∷ l) (rest g)
       | false ↦ λ g. rw (one_for user r some, g) refl
@@ -82,11 +82,11 @@ none_below [] user h g = refl
 none_below (row ∷ rows) user h g = rw (other_user user row g) (none_below rows user h.2 (above_later user row rows g h.1))
 
 -- where the place is no row of the user there is none
-pub none_at : (rows : List PrivateRow) (user : ObjNum) → AreRows rows → is_at rows (count_before rows user) user ≡ false → row_of rows user.0 ≡ 0
+pub none_at : (rows : List PrivateRow) (user : ObjNum) → AreRows rows → row_is_at rows (count_before rows user) user ≡ false → row_of rows user.0 ≡ 0
 none_at [] user h off = refl
 none_at (row ∷ rows) user h off =
     let rest = none_at rows user h.2 in
-    elim (nat_lt row.user.0 user.0) as (λ b. nat_lt row.user.0 user.0 ≡ b → is_of user (slice_get (row ∷ rows) (cond b (suc (count_before rows user)) 0)) ≡ false → row_of (row ∷ rows) user.0 ≡ 0) [
+    elim (nat_lt row.user.0 user.0) as (λ b. nat_lt row.user.0 user.0 ≡ b → is_of_user user (slice_get (row ∷ rows) (cond b (suc (count_before rows user)) 0)) ≡ false → row_of (row ∷ rows) user.0 ≡ 0) [
       | true ↦ λ q g. let other : (row.user.0 == user.0) ≡ false = grind (arith, nat_tests) in rw other (rest g)
       | false ↦ λ q g. let beyond : user.0 < row.user.0 = grind (arith, nat_tests) in rw g (none_below rows user.0 h.2 (above_later user.0 row rows beyond h.1))
     ] refl off
@@ -179,12 +179,12 @@ place_within (row ∷ rows) user =
     let rest = place_within rows user in
     elim (nat_lt row.user.0 user.0) as (λ b. cond b (suc (count_before rows user)) 0 ≤ length (row ∷ rows)) [ true ↦ omega (arith, rest) | false ↦ omega arith ]
 
--- a row that is there stands within
-pub row_there : (rows : List PrivateRow) (user : ObjNum) → is_at rows (count_before rows user) user ≡ true → count_before rows user < length rows
+-- a row that is there lies within
+pub row_there : (rows : List PrivateRow) (user : ObjNum) → row_is_at rows (count_before rows user) user ≡ true → count_before rows user < length rows
 row_there [] user h = cc
 row_there (row ∷ rows) user h =
     let rest = row_there rows user in
-    elim (nat_lt row.user.0 user.0) as (λ b. is_of user (slice_get (row ∷ rows) (cond b (suc (count_before rows user)) 0)) ≡ true → cond b (suc (count_before rows user)) 0 < length (row ∷ rows)) [
+    elim (nat_lt row.user.0 user.0) as (λ b. is_of_user user (slice_get (row ∷ rows) (cond b (suc (count_before rows user)) 0)) ≡ true → cond b (suc (count_before rows user)) 0 < length (row ∷ rows)) [
       | true ↦ λ g. omega (arith, rest g)
       | false ↦ λ g. omega arith
     ] h

@@ -3,17 +3,12 @@ use Rattle.std.proofs.Common.{◌≡◌, ℕ, List, [], ◌∷◌, refl}
 use Rattle.std.specs.Prelude.{Option, Some, None}
 use Rattle.s38_code.specs.declared.event.Event.{Event}
 use Rattle.s38_journals.specs.Journals as journals
-use Rattle.s38_rules.specs.Forcing.{Ceiling, Forced, Header, Removed, Whole, forced}
-use Rattle.s38_rules.specs.Held.{Held}
-use Rattle.s38_rules.specs.Parts.{on_journal}
-use Rattle.s38_rules.specs.Room.{Room}
-use Rattle.s38_rules.specs.State.{State}
-use Rattle.s38_rules.specs.Storing.{all_kept, stored, stored_in}
-
--- without a store nothing is kept
-pub without_store : (s : State) (p : ℕ) (e : Event) (t : State) → s.room ≡ None → stored s p e t ≡ t
-unfolding stored
-without_store s p e t none = rw none refl
+use Rattle.s38_rules.specs.store.Forcing.{Ceiling, Forced, Header, Removed, Whole, must_persist}
+use Rattle.s38_rules.specs.state.Held.{Held}
+use Rattle.s38_rules.specs.state.PartsAt.{on_journal}
+use Rattle.s38_rules.specs.store.Room.{Room}
+use Rattle.s38_rules.specs.state.State.{State}
+use Rattle.s38_rules.specs.store.Storing.{all_kept, stored, stored_in}
 
 -- ---- all but the objects and the room
 
@@ -32,7 +27,7 @@ stands_beside (Some room) all t = record { limit = refl; templates = refl; proce
 
 pub stored_beside : (s : State) (p : ℕ) (e : Event) (t : State) → IsBeside t (stored s p e t)
 unfolding stored
-stored_beside s p e t = stands_beside s.room (forced s p e) t
+stored_beside s p e t = stands_beside s.room (must_persist s p e) t
 
 -- ---- the objects
 
@@ -48,7 +43,7 @@ stored_in_holds : (P : Held → Type 0) → ((h : Held) (n : ℕ) → P h → P 
 stored_in_holds P keeps None all t p = p
 stored_in_holds P keeps (Some room) all t p = kept_holds P keeps all t.held p
 
--- what holds wherever all bytes of one more journal space are kept, holds of the objects behind a step
+-- what holds wherever all bytes of one more journal space are kept, holds of the objects after a step
 pub stored_holds : (P : Held → Type 0) → ((h : Held) (n : ℕ) → P h → P (on_journal h n journals.forced)) → (s : State) (p : ℕ) (e : Event) (t : State) → P t.held → P (stored s p e t).held
 unfolding stored
-stored_holds P keeps s p e t holds = stored_in_holds P keeps s.room (forced s p e) t holds
+stored_holds P keeps s p e t holds = stored_in_holds P keeps s.room (must_persist s p e) t holds

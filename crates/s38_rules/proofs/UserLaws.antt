@@ -9,23 +9,15 @@ use Rattle.s38_profiles.specs.Users.{SetsUser, Users, charge_in as charge_of, ch
 use Rattle.s38_rules.specs.declared.object.Body.{Body}
 use Rattle.s38_rules.specs.declared.object.Body.TheVariants as bodies
 use Rattle.s38_rules.specs.declared.object.Object.{Object}
-use Rattle.s38_rules.specs.Headers.{row_in}
-use Rattle.s38_rules.specs.Held.{object_in}
-use Rattle.s38_rules.specs.Keeping.{AreKeptRows, AreUsers, IsUser, paid, paying}
-use Rattle.s38_rules.specs.Kept.{kept_profile, kept_row, profile_by}
+use Rattle.s38_rules.specs.state.Headers.{rights_in_row}
+use Rattle.s38_rules.specs.state.Held.{object_in}
+use Rattle.s38_rules.specs.state.Keeping.{AreKeptRows, AreUsers, IsUser, paid, paying}
+use Rattle.s38_rules.specs.state.Kept.{kept_profile, kept_row, profile_by}
 
 nat_same : (a b : ℕ) → (a == b) ≡ true → a ≡ b
 nat_same a b h = grind (arith, nat_tests)
 
 -- ---- a charge is set, of a user that is there
-
-pub paid_there : (before : Option Profile) (pages : ℕ) → IsSome before → Some (charged pages before) ≡ paid pages before
-paid_there None pages h = cc
-paid_there (Some p) pages h = refl
-
-pub charge_set : (users after : Users) (user pages : ℕ) → IsSome (user_at users user) → SetsUser users user (Some (charged pages (user_at users user))) after → SetsUser users user (paid pages (user_at users user)) after
-charge_set users after user pages there set other =
-    set other ∙ ap (λ (p : Option Profile). cond (user == other) p (user_at users other)) (paid_there (user_at users user) pages there)
 
 unset : (users : Users) (user : ℕ) (profile : Option Profile) → profile ≡ user_at users user → SetsUser users user profile users
 unset users user profile same other =
@@ -33,10 +25,6 @@ unset users user profile same other =
       | true ↦ λ q. ap (λ (k : ℕ). user_at users k) (sym (nat_same user other q)) ∙ sym same
       | false ↦ λ q. refl
     ] refl
-
--- where a user is not there, neither setting its charge nor taking it out changes anything
-pub charge_unset : (users : Users) (user pages : ℕ) → user_at users user ≡ None → SetsUser users user (paid pages (user_at users user)) users
-charge_unset users user pages none = unset users user (paid pages (user_at users user)) (ap (paid pages) none ∙ sym none)
 
 pub left_unset : (users : Users) (user : ℕ) → user_at users user ≡ None → SetsUser users user None users
 left_unset users user none = unset users user None (sym none)
@@ -127,16 +115,16 @@ user_set users after os more charges user profile h there set other =
 
 -- ---- rows
 
-pub rows_of : (rows : Rows) (os more : List Object) → AreKeptRows rows os → ((user n : ℕ) → row_in (object_in more n) user ≡ row_in (object_in os n) user) → AreKeptRows rows more
+pub rows_of : (rows : Rows) (os more : List Object) → AreKeptRows rows os → ((user n : ℕ) → rights_in_row (object_in more n) user ≡ rights_in_row (object_in os n) user) → AreKeptRows rows more
 rows_of rows os more h same user n = h user n ∙ sym (ap kept_row (same user n))
 
 -- one right of a row is set
 pub row_kept : (rows after : Rows) (os more : List Object) (user n : ℕ) (r : Rights) → AreKeptRows rows os
-    → ((other m : ℕ) → row_in (object_in more m) other ≡ cond ((user == other) && (n == m)) r.0 (row_in (object_in os m) other))
+    → ((other m : ℕ) → rights_in_row (object_in more m) other ≡ cond ((user == other) && (n == m)) r.0 (rights_in_row (object_in os m) other))
     → SetsRow rows (row_key user n) (row_with r) after → AreKeptRows after more
 row_kept rows after os more user n r h there set other m =
     set other m
-    ∙ elim ((user == other) && (n == m)) as (λ c. cond c (row_with r) (row_at rows (row_key other m)) ≡ kept_row (cond c r.0 (row_in (object_in os m) other))) [
+    ∙ elim ((user == other) && (n == m)) as (λ c. cond c (row_with r) (row_at rows (row_key other m)) ≡ kept_row (cond c r.0 (rights_in_row (object_in os m) other))) [
       | true ↦ refl
       | false ↦ h other m
     ]
@@ -144,11 +132,11 @@ row_kept rows after os more user n r h there set other m =
 
 -- the rows of one object are there no more
 pub rows_left : (rows after : Rows) (os more : List Object) (n : ℕ) → AreKeptRows rows os
-    → ((user m : ℕ) → row_in (object_in more m) user ≡ cond (n == m) 0 (row_in (object_in os m) user))
+    → ((user m : ℕ) → rights_in_row (object_in more m) user ≡ cond (n == m) 0 (rights_in_row (object_in os m) user))
     → ((user m : ℕ) → row_at after (row_key user m) ≡ cond (n == m) None (row_at rows (row_key user m))) → AreKeptRows after more
 rows_left rows after os more n h there set user m =
     set user m
-    ∙ elim (n == m) as (λ c. cond c None (row_at rows (row_key user m)) ≡ kept_row (cond c 0 (row_in (object_in os m) user))) [
+    ∙ elim (n == m) as (λ c. cond c None (row_at rows (row_key user m)) ≡ kept_row (cond c 0 (rights_in_row (object_in os m) user))) [
       | true ↦ refl
       | false ↦ h user m
     ]

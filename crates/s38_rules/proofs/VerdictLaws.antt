@@ -4,11 +4,13 @@ use Rattle.s38_base.specs.declared.exception.Exception.{Exception}
 use Rattle.s38_code.specs.declared.event.Request.{Request}
 use Rattle.s38_rules.proofs.RuleLaws.{first_none}
 use Rattle.s38_rules.specs.declared.verdict.Verdict.TheVariants.{Permit, Refuse}
-use Rattle.s38_rules.specs.Authority.{lacks_special}
-use Rattle.s38_rules.specs.Instruction.{Instruction}
-use Rattle.s38_rules.specs.State.{State, is_last_ready}
-use Rattle.s38_rules.specs.Users.{acting}
-use Rattle.s38_rules.specs.Verdict.{address_rules, lock_rules, may_wait, of_request, refused_by, rights_rules, unless_last}
+use Rattle.s38_rules.specs.ask.Authority.{lacks_special}
+use Rattle.s38_rules.specs.families.Instruction.{Instruction}
+use Rattle.s38_rules.specs.state.State.{State, is_last_ready}
+use Rattle.s38_rules.specs.ask.Users.{acting}
+use Rattle.s38_rules.specs.step.Verdict.{lock_rules, may_wait, of_request, refused_by, unless_last}
+use Rattle.s38_rules.specs.ask.RightsRules.{rights_rules}
+use Rattle.s38_rules.specs.ask.AddressRules.{address_rules}
 
 no_permit : (waits last : Bool) (x : Exception) → cond waits (unless_last last) (Refuse x) ≡ Permit → ⊥
 no_permit true true x h = cc

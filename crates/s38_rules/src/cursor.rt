@@ -7,6 +7,6 @@ pub struct Cursor {
     pub space: ObjNum,
     /// The commit block to which its changes belong, or 0.
     pub block: ObjNum,
-    /// The ordinal at which it stands, or 0.
+    /// The ordinal at which it is, or 0.
     pub position: u32,
 }

@@ -1,5 +1,5 @@
 //! The rules of the machine, as definitions: its state, users and rights, operands, each family of instructions, the
-//! verdict, the effect, steps and legal histories. The data of the state stand here too, so that the definitions
+//! verdict, the effect, steps and legal histories. The data of the state are here too, so that the definitions
 //! and the code speak of one type.
 #![tactic(auto)]
 

@@ -1,6 +1,6 @@
 use s38_base::Name;
 
-/// Under what an object stands in the list of a context's contents: kind, subtype, name, in this order.
+/// The key of an object in the list of a context's contents: kind, subtype, name, in this order.
 #[derive(Clone, Copy, PartialEq, Eq, PartialOrd, Ord, Debug)]
 pub struct Listed {
     /// The number of the kind.

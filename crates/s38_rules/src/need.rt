@@ -5,7 +5,7 @@ use s38_base::{Category, Kind, ObjNum, Rights};
 pub enum Named {
     /// That of the pointer at the operand.
     Written,
-    /// One that the operand stands for without a pointer.
+    /// One that the operand names without a pointer.
     Implied(ObjNum),
 }
 

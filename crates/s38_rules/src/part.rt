@@ -2,8 +2,9 @@
 ghost use Rattle.std.specs.Prelude.{◌≡◌};
 ghost use Rattle.std.specs.Borrow.{sem};
 ghost use Rattle.std.specs.Option.{option_copied, option_copied_mut};
-ghost use Rattle.s38_rules.specs.Lending.{LendsPart};
-ghost use Rattle.s38_rules.specs.Parts.{IsPart, Part, block_lawful, block_part, cursor_lawful, cursor_part, data_lawful, data_part, index_lawful, index_part, journal_lawful, journal_part, port_lawful, port_part, queue_lawful, queue_part, space_lawful, space_part};
+ghost use Rattle.s38_rules.specs.state.Lending.{LendsPart};
+ghost use Rattle.s38_rules.specs.state.Parts.{Part, block_part, cursor_part, data_part, index_part, journal_part, port_part, queue_part, space_part};
+ghost use Rattle.s38_rules.specs.state.LawfulParts.{IsPart, block_lawful, cursor_lawful, data_lawful, index_lawful, journal_lawful, port_lawful, queue_lawful, space_lawful};
 
 use crate::block::Block;
 use crate::cursor::Cursor;

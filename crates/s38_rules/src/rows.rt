@@ -1,6 +1,6 @@
 ghost use Rattle.std.specs.Prelude.{◌≡◌, ◌≢◌, ◌≤◌, ◌<◌, ◌==◌, ◌++◌, ◌∷◌, ℕ, Some, drop, false, find, length, slice_get, slice_set, take, true, vec_len, IfOk, OnErr, OnOk, if◌then◌else◌};
 ghost use Rattle.std.specs.Option.{option_copied};
-ghost use Rattle.s38_rules.specs.PrivateRows.{AreRows, count_before, is_at, is_row, rights_in, row_for, row_of, with_row};
+ghost use Rattle.s38_rules.specs.state.PrivateRows.{AreRows, count_before, is_row, rights_in, row_for, row_is_at, row_of, with_row};
 
 use s38_base::{NoMemory, Rights, UserNum};
 use std::alloc::Global;
@@ -22,7 +22,7 @@ pub struct RowList {
 impl Model for RowList {
     ghost use Rattle.std.specs.Prelude.{List};
     ghost use Rattle.s38_rules.specs.declared.rows.PrivateRow.{PrivateRow};
-    ghost use Rattle.s38_rules.specs.PrivateRows.{AreRows};
+    ghost use Rattle.s38_rules.specs.state.PrivateRows.{AreRows};
 
     ghost Value = { List PrivateRow };
 
@@ -31,7 +31,7 @@ impl Model for RowList {
     ghost invariant = { λ l. AreRows l.rows.items };
 }
 
-/// How many rows stand before that of a user.
+/// How many rows are before that of a user.
 fn place_of(rows: &[PrivateRow], user: UserNum) -> usize
     ensures place { result ≡ count_before rows.now user }
     ensures within { result ≤ length rows.now }
@@ -49,7 +49,7 @@ fn place_of(rows: &[PrivateRow], user: UserNum) -> usize
 }
 
 fn is_at(rows: &[PrivateRow], at: usize, user: UserNum) -> bool
-    ensures { result ≡ is_at rows.now at user }
+    ensures { result ≡ row_is_at rows.now at user }
 {
     match rows.get(at) {
         None => false,
@@ -83,11 +83,11 @@ fn insert(rows: &mut Vec<PrivateRow>, at: usize, row: PrivateRow) -> Result<(), 
     }
 }
 
-/// The row of a user, which stands at a place, has these rights, or is taken out.
+/// The row of a user, which is at a place, has these rights, or is taken out.
 #[tactic(auto, using(crate::proofs::RowLaws::row_removed, crate::proofs::RowLaws::row_there, crate::proofs::RowLaws::row_replaced))]
 fn change_row(rows: &mut Vec<PrivateRow>, at: usize, user: UserNum, rights: Rights)
     requires place { at ≡ count_before rows.old.items user }
-    requires there { is_at rows.old.items at user ≡ true }
+    requires there { row_is_at rows.old.items at user ≡ true }
     ensures { rows.new.items ≡ with_row rows.old.items user rights }
 {
     if rights.0 == 0 {
@@ -106,7 +106,7 @@ fn add_row(
     rights: Rights,
 ) -> Result<(), NoMemory>
     requires place { at ≡ count_before rows.old.items user }
-    requires absent { is_at rows.old.items at user ≡ false }
+    requires absent { row_is_at rows.old.items at user ≡ false }
     ensures ok { OnOk result (rows.new.items ≡ with_row rows.old.items user rights) }
     ensures added { OnErr result (rights.0 ≢ 0) }
     ensures err { OnErr result (rows.new.items ≡ rows.old.items) }

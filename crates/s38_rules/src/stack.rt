@@ -1,5 +1,5 @@
 ghost use Rattle.std.specs.Prelude.{◌≡◌, ◌<◌, ◌≤◌, ◌++◌, ◌∷◌, [], length, take, IfOk, OnErr, OnOk};
-ghost use Rattle.s38_rules.specs.Invocations.{frames_used, most_frames, pushed, replaced};
+ghost use Rattle.s38_rules.specs.state.Invocations.{frames_used, most_frames, pushed, replaced};
 
 use s38_base::{NoMemory, ObjNum};
 use std::alloc::Global;

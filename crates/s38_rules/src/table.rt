@@ -1,9 +1,9 @@
 //! What the objects are to the crates below the object map: headers by number, numbers by name, and what is said of
 //! users.
 ghost use Rattle.std.specs.Prelude.{◌≡◌, IfOk};
-ghost use Rattle.s38_rules.specs.Held.{Held, number_found, object};
-ghost use Rattle.s38_rules.specs.Headers.{header_in};
-ghost use Rattle.s38_rules.specs.Kept.{CanBeKept, Mirrors};
+ghost use Rattle.s38_rules.specs.state.Held.{Held, number_found, object};
+ghost use Rattle.s38_rules.specs.state.Headers.{header_in};
+ghost use Rattle.s38_rules.specs.state.Kept.{CanBeKept, Mirrors};
 
 use s38_base::{Id, Kind, NoMemory, ObjNum, Rights, Special, UserNum};
 use s38_profiles::Profiles;

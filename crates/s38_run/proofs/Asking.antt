@@ -17,7 +17,9 @@ use Rattle.s38_process.specs.declared.status.Status.{Status}
 use Rattle.s38_process.specs.declared.status.Status.TheVariants.{Fresh, Running, Ending, Ended}
 use Rattle.s38_process.specs.Exceptions.{offered}
 use Rattle.s38_process.specs.Invocations.{Stack, instruction_of}
-use Rattle.s38_process.specs.Process.{ProcessState, RanFrom, absorbed, act_of, acts, after_act, after_asked, after_end, after_event, after_offer, after_signal, after_start, alone_by, asks, begun_by, behind, ends_by_finish, event_of, is_finish, is_return, returns, settled, signal_status}
+use Rattle.s38_process.specs.Process.{ProcessState, act_of, acts, after_offer, after_signal, asks, event_of, is_return, returns, signal_status}
+use Rattle.s38_process.specs.AfterReply.{RanFrom, absorbed, after_act, after_asked, after_end, after_event, after_start, begun_by, ends_by_finish, is_finish, process_after}
+use Rattle.s38_process.specs.LocalRun.{after_local_run, alone_by}
 use Rattle.s38_process.proofs.Alone.{IsLater, Moves, settled_later, settled_still}
 use Rattle.s38_run.specs.Running.{left, left_by}
 
@@ -68,9 +70,9 @@ unfolding event_of
 asking d e h = of_status d d.status e refl h
 
 -- how it goes on is by what it asked
-pub absorbed_by : (d : ProcessState) (e : Event) (r : Reply) → event_of d ≡ Some e → absorbed d r ≡ settled (after_event d e r)
+pub absorbed_by : (d : ProcessState) (e : Event) (r : Reply) → event_of d ≡ Some e → absorbed d r ≡ after_local_run (after_event d e r)
 unfolding absorbed
-absorbed_by d e r h = ap (λ o. settled (after_asked d o r)) h
+absorbed_by d e r h = ap (λ o. after_local_run (after_asked d o r)) h
 
 left_at : (d : ProcessState) (s : Status) → d.status ≡ s → left d ≡ left_by d s
 left_at d s h = ap (left_by d) h
@@ -124,13 +126,13 @@ later_left d e h = elim h.status as (λ _. left e ≤ left d) [
 ]
 
 -- local instructions bring a process no further from its end
-pub settled_left : (d : ProcessState) → left (settled d) ≤ left d
-settled_left d = later_left d (settled d) (settled_later d)
+pub settled_left : (d : ProcessState) → left (after_local_run d) ≤ left d
+settled_left d = later_left d (after_local_run d) (settled_later d)
 
 -- each reply but MustWait brings it nearer
 pub falls : (d : ProcessState) (e : Event) (r : Reply) → event_of d ≡ Some e → r ≢ MustWait → left (absorbed d r) < left d
 falls d e r h w =
-    let nearer : left (settled (after_event d e r)) < left d = omega (arith, falls_by d e r w (asking d e h), settled_left (after_event d e r)) in
+    let nearer : left (after_local_run (after_event d e r)) < left d = omega (arith, falls_by d e r w (asking d e h), settled_left (after_event d e r)) in
     subst (λ (x : ProcessState). left x < left d) (sym (absorbed_by d e r h)) nearer
 
 -- and MustWait leaves it where it was
@@ -141,11 +143,11 @@ waits_still d (Finish cause) = refl
 
 pub waits_left : (d : ProcessState) (e : Event) → event_of d ≡ Some e → left (absorbed d MustWait) ≤ left d
 waits_left d e h =
-    subst (λ (x : ProcessState). left x ≤ left d) (sym (absorbed_by d e MustWait h ∙ ap settled (waits_still d e))) (settled_left d)
+    subst (λ (x : ProcessState). left x ≤ left d) (sym (absorbed_by d e MustWait h ∙ ap after_local_run (waits_still d e))) (settled_left d)
 
--- a process that is fresh behind its local run was so before, and one that has ended too
-was_fresh : (d : ProcessState) → (settled d).status ≡ Fresh → d.status ≡ Fresh
-was_fresh d = before_fresh d.status (settled d).status (settled_later d).status
+-- a process that is fresh after its local run was so before, and one that has ended too
+was_fresh : (d : ProcessState) → (after_local_run d).status ≡ Fresh → d.status ≡ Fresh
+was_fresh d = before_fresh d.status (after_local_run d).status (settled_later d).status
   where
     apart : (c : EndCause) → Ending c ≡ Fresh → ⊥
     apart c g = cc
@@ -153,8 +155,8 @@ was_fresh d = before_fresh d.status (settled d).status (settled_later d).status
     before_fresh : (s t : Status) → Moves s t → t ≡ Fresh → s ≡ Fresh
     before_fresh s t moves is = elim moves as (λ _. s ≡ Fresh) [ inl same ↦ sym same ∙ is | inr ends ↦ absurd (apart ends.1.0 (sym ends.1.1 ∙ is)) ]
 
-was_ended : (d : ProcessState) → (settled d).status ≡ Ended → d.status ≡ Ended
-was_ended d = before_ended d.status (settled d).status (settled_later d).status
+was_ended : (d : ProcessState) → (after_local_run d).status ≡ Ended → d.status ≡ Ended
+was_ended d = before_ended d.status (after_local_run d).status (settled_later d).status
   where
     apart : (c : EndCause) → Ending c ≡ Ended → ⊥
     apart c g = cc
@@ -241,7 +243,7 @@ end_is d (Done vs) w = refl
 end_is d (Signal x) w = refl
 end_is d MustWait w = absurd (w refl)
 
-ended_stays : (d : ProcessState) → d.status ≡ Ended → (settled d).status ≡ Ended
+ended_stays : (d : ProcessState) → d.status ≡ Ended → (after_local_run d).status ≡ Ended
 ended_stays d h = ap (λ (x : ProcessState). x.status) (settled_still d (ap (alone_by d) h)) ∙ h
 
 finish_by : (d : ProcessState) (e : Event) (r : Reply) → r ≢ MustWait → is_finish e ≡ true → (after_event d e r).status ≡ Ended
@@ -289,13 +291,13 @@ none_asked d h = none_ended d d.status refl h
 
 -- ---- entries of one process
 
-pub ran_more : (d : ProcessState) (es : List Entry) (e : Entry) → RanFrom d es → event_of (behind d es) ≡ Some e.event → RanFrom d (es ++ e ∷ [])
+pub ran_more : (d : ProcessState) (es : List Entry) (e : Entry) → RanFrom d es → event_of (process_after d es) ≡ Some e.event → RanFrom d (es ++ e ∷ [])
 ran_more d [] e h g = (g, tt)
 ran_more d (x ∷ es) e h g = (h.0, ran_more (absorbed d x.reply) es e h.1 g)
 
-pub behind_more : (d : ProcessState) (es : List Entry) (e : Entry) → behind d (es ++ e ∷ []) ≡ absorbed (behind d es) e.reply
-behind_more d [] e = refl
-behind_more d (x ∷ es) e = behind_more (absorbed d x.reply) es e
+pub more_after : (d : ProcessState) (es : List Entry) (e : Entry) → process_after d (es ++ e ∷ []) ≡ absorbed (process_after d es) e.reply
+more_after d [] e = refl
+more_after d (x ∷ es) e = more_after (absorbed d x.reply) es e
 
 pub ends_more : (es : List Entry) (e : Entry) → ends_by_finish (es ++ e ∷ []) ≡ is_finish e.event
 ends_more [] e = refl

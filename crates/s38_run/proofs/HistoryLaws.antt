@@ -10,19 +10,20 @@ use Rattle.s38_code.specs.declared.made.CreateResult.{CreateResult}
 use Rattle.s38_code.specs.declared.made.CreateResult.TheVariants.{Refused}
 use Rattle.s38_code.specs.declared.reply.Reply.{Reply}
 use Rattle.s38_code.specs.declared.reply.Reply.TheVariants.{MustWait}
-use Rattle.s38_code.specs.History.{count_of, entries_of}
-use Rattle.s38_rules.specs.State.{State, ready_list}
-use Rattle.s38_rules.specs.Step.{step}
-use Rattle.s38_rules.specs.Legal.{IsProcess, Leads, Run}
+use Rattle.s38_code.specs.History.{entries_of, entry_count}
+use Rattle.s38_rules.specs.state.State.{State, ready_list}
+use Rattle.s38_rules.specs.step.Step.{step}
+use Rattle.s38_rules.specs.step.Legal.{IsProcess, Leads, Run}
 use Rattle.s38_process.specs.declared.status.Status.TheVariants.{Ended}
-use Rattle.s38_process.specs.Process.{ProcessState, RanFrom, absorbed, asks, behind, ends_by_finish, event_of, fresh, is_finish}
+use Rattle.s38_process.specs.Process.{ProcessState, asks, event_of, fresh}
+use Rattle.s38_process.specs.AfterReply.{RanFrom, absorbed, ends_by_finish, is_finish, process_after}
 use Rattle.s38_run.specs.Picked.{Picked}
 use Rattle.s38_run.specs.Pickers.{picks_of}
 use Rattle.s38_run.specs.Whole.{WasRun}
 use Rattle.s38_run.proofs.Asking.{finish_ends}
 use Rattle.s38_run.proofs.ReadyLaws.{listed_ready}
 use Rattle.s38_run.proofs.Stepping.{GoesTo, goes}
-use Rattle.s38_run.proofs.TurnLaws.{there_is}
+use Rattle.s38_run.proofs.ListedJobs.{there_is}
 
 same_self : (p : ℕ) → (p == p) ≡ true
 same_self p = grind (arith, nat_tests)
@@ -61,7 +62,7 @@ unfolding event_of
 ended_asks d h = ap (asks d) h
 
 -- a whole run asks nothing more
-whole_rests : (d : ProcessState) (es : List Entry) → RanFrom d es → ends_by_finish es ≡ true → AnswersEnds es → event_of (behind d es) ≡ None
+whole_rests : (d : ProcessState) (es : List Entry) → RanFrom d es → ends_by_finish es ≡ true → AnswersEnds es → event_of (process_after d es) ≡ None
 unfolding AnswersEnds
 whole_rests d [] ran whole answered = cc
 whole_rests d (e ∷ []) ran whole answered = ended_asks (absorbed d e.reply) (finish_ends d e.event e.reply ran.0 (answered.0 whole) whole)
@@ -69,13 +70,13 @@ whole_rests d (e ∷ f ∷ es) ran whole answered = whole_rests (absorbed d e.re
 
 -- ---- two runs
 
--- processes that stand so made these entries by their picks, up to their ends
+-- processes in these states made these entries by their picks, up to their ends
 record Goes {S : Type 0} (answer : S → ℕ) (after : S → S) (x : S) (count : ℕ) (s : State) (past : List Entry) (d : ℕ → ProcessState) (es : List Entry) (t : State) : Type 0 where
   counted : length s.processes ≡ count
   picked : Picked (picks_of answer after (length es) x) s es
   leads : Leads s past es t
   ran : (p : ℕ) → 0 < p → p ≤ count → RanFrom (d p) (entries_of p es)
-  rests : (p : ℕ) → 0 < p → p ≤ count → event_of (behind (d p) (entries_of p es)) ≡ None
+  rests : (p : ℕ) → 0 < p → p ≤ count → event_of (process_after (d p) (entries_of p es)) ≡ None
 
 moved : (ℕ → ProcessState) → Entry → ℕ → ProcessState
 moved d e p = cond (e.process == p) (absorbed (d p) e.reply) (d p)
@@ -95,7 +96,7 @@ goes_tail answer after x count s past d e es t go = record {
     ran_tail true y xs h = h.1
     ran_tail false y xs h = h
 
-    rests_tail : (b : Bool) (y : ProcessState) (xs : List Entry) → event_of (behind y (cond b (e ∷ xs) xs)) ≡ None → event_of (behind (cond b (absorbed y e.reply) y) xs) ≡ None
+    rests_tail : (b : Bool) (y : ProcessState) (xs : List Entry) → event_of (process_after y (cond b (e ∷ xs) xs)) ≡ None → event_of (process_after (cond b (absorbed y e.reply) y) xs) ≡ None
     rests_tail true y xs h = h
     rests_tail false y xs h = h
 
@@ -142,7 +143,7 @@ same_entries answer after x count s past d (e ∷ es) [] t u go too =
 same_entries answer after x count s past d (e ∷ es) (f ∷ fs) t u go too =
     let process : e.process ≡ f.process = same_Some e.process f.process (sym go.picked.0 ∙ too.picked.0) in
     let event = event_same d e f process (goes_head answer after x count s past d e es t go).1.1 (goes_head answer after x count s past d f fs u too).1.1 in
-    let seq : e.seq ≡ f.seq = go.leads.0.seq ∙ ap (λ p. count_of p past) process ∙ sym too.leads.0.seq in
+    let seq : e.seq ≡ f.seq = go.leads.0.seq ∙ ap (λ p. entry_count p past) process ∙ sym too.leads.0.seq in
     let reply : e.reply ≡ f.reply =
     sym go.leads.0.reply ∙ ap (λ p. (step s p e.event).reply) process ∙ ap (λ (v : Event). (step s f.process v).reply) event ∙ too.leads.0.reply in
     let same = entry_same e f process seq event reply in
@@ -172,7 +173,7 @@ whole_goes answer after x made jobs m made_count count was = record {
   rests = λ p first last. (own p first last).1;
 }
   where
-    own : (p : ℕ) → 0 < p → p ≤ length jobs → RanFrom (starts made jobs p) (entries_of p m.history) × (event_of (behind (starts made jobs p) (entries_of p m.history)) ≡ None)
+    own : (p : ℕ) → 0 < p → p ≤ length jobs → RanFrom (starts made jobs p) (entries_of p m.history) × (event_of (process_after (starts made jobs p) (entries_of p m.history)) ≡ None)
     own p first last =
         let job = there_is jobs (p - 1) (omega (arith, first, last)) in
         let one = there_is made (p - 1) (omega (arith, first, last, made_count)) in
@@ -183,7 +184,7 @@ whole_goes answer after x made jobs m made_count count was = record {
         let by_program : RanFrom (fresh one.0 job.0.budget) (entries_of p m.history) = subst (λ i. RanFrom (fresh one.0 job.0.budget) (entries_of i m.history)) index ran.by_program in
         let whole : ends_by_finish (entries_of p m.history) ≡ true = subst (λ i. ends_by_finish (entries_of i m.history) ≡ true) index ran.whole in
         let answered = own_ends p m.history (answers_ends answer after x m.origin [] m.history m.state was.picked was.sound.legal) in
-        subst (λ (d : ProcessState). RanFrom d (entries_of p m.history) × (event_of (behind d (entries_of p m.history)) ≡ None)) (sym start)
+        subst (λ (d : ProcessState). RanFrom d (entries_of p m.history) × (event_of (process_after d (entries_of p m.history)) ≡ None)) (sym start)
         (by_program, whole_rests (fresh one.0 job.0.budget) (entries_of p m.history) by_program whole answered)
 
 -- machine, jobs and picks decide the history

@@ -13,23 +13,25 @@ use Rattle.s38_code.specs.declared.made.CreateResult.{CreateResult}
 use Rattle.s38_code.specs.History.{entries_of}
 use Rattle.s38_machine.specs.Stored.{stored_state_of}
 use Rattle.s38_rules.specs.declared.process.ProcessEntry.{ProcessEntry}
-use Rattle.s38_rules.specs.Held.{Held}
-use Rattle.s38_rules.specs.State.{State, is_early, ready, ready_in, runs_before, process_entry, waits, ready_list}
-use Rattle.s38_rules.specs.Legal.{IsProcess, IsSound, Leads, Run, begun}
-use Rattle.s38_rules.specs.Room.{Room}
-use Rattle.s38_rules.specs.Opening as opening
-use Rattle.s38_rules.specs.Step.{step}
+use Rattle.s38_rules.specs.state.Held.{Held}
+use Rattle.s38_rules.specs.state.State.{State, is_early, process_entry, ready, ready_in, ready_list, runs_before, waits}
+use Rattle.s38_rules.specs.step.Legal.{IsProcess, IsSound, Leads, Run, begun}
+use Rattle.s38_rules.specs.store.Room.{Room}
+use Rattle.s38_rules.specs.state.Opening as opening
+use Rattle.s38_rules.specs.step.Step.{step}
 use Rattle.s38_process.specs.declared.status.Status.TheVariants.{Fresh, Ended}
-use Rattle.s38_process.specs.Process.{behind, event_of, fresh}
+use Rattle.s38_process.specs.Process.{event_of, fresh}
+use Rattle.s38_process.specs.AfterReply.{process_after}
 use Rattle.s38_rules.proofs.Laws.{sound_begun}
 use Rattle.s38_run.specs.declared.job_state.JobState.{JobState}
 use Rattle.s38_run.specs.declared.job_state.JobState.TheVariants.{Unbegun}
 use Rattle.s38_run.specs.Picked.{Picked, chosen}
-use Rattle.s38_run.specs.Pickers.{behind_picks, picks_of}
-use Rattle.s38_run.specs.Running.{CameOff, CameToHalt, HasHalted, IsBetween, IsOver, RanSoFar, Stands, WentOn, unbegun}
+use Rattle.s38_run.specs.Pickers.{after_picks, picks_of}
+use Rattle.s38_run.specs.Running.{AskedSoFar, CameOff, CameToHalt, HasHalted, IsBetween, IsOver, RanSoFar, WentOn, unbegun}
 use Rattle.s38_run.specs.Whole.{AllByProgram, AllRan, IsBegun, opened_for}
 use Rattle.s38_run.proofs.ReadyLaws.{any_some, none_listed}
-use Rattle.s38_run.proofs.TurnLaws.{all_by_program, processes_count, there_is, when_true}
+use Rattle.s38_run.proofs.ListedJobs.{all_by_program, processes_count, there_is}
+use Rattle.s38_run.proofs.JobTurn.{when_true}
 
 -- ---- where none is ready, all have ended
 
@@ -85,10 +87,10 @@ unbegun_at [] k state h = cc
 unbegun_at (job ∷ jobs) zero state h = sym (same_Some _ _ h)
 unbegun_at (job ∷ jobs) (suc k) state h = unbegun_at jobs k state h
 
-fresh_stands : (one : CreateResult) (budget : ℕ) (ended : Bool) (state : JobState) → ended ≡ false → state ≡ Unbegun → Stands one budget ended [] state
+fresh_stands : (one : CreateResult) (budget : ℕ) (ended : Bool) (state : JobState) → ended ≡ false → state ≡ Unbegun → AskedSoFar one budget ended [] state
 fresh_stands one budget ended state still is =
-    subst (λ (b : Bool). Stands one budget b [] state) (sym still)
-    (subst (λ (s : JobState). Stands one budget false [] s) (sym is) (record { by_program = tt; is = (refl, going) }))
+    subst (λ (b : Bool). AskedSoFar one budget b [] state) (sym still)
+    (subst (λ (s : JobState). AskedSoFar one budget false [] s) (sym is) (record { by_program = tt; is = (refl, going) }))
   where
     going : Fresh ≢ Ended
     going g = cc
@@ -109,7 +111,7 @@ between_begun made jobs m all list count begun unbegun_yet listed = record {
     each = λ k x job one state x_at job_at one_at state_at.
         let there : slice_get (opening.process_entries jobs) k ≡ Some x = ap (λ (s : State). slice_get s.processes k) (sym (first_state jobs m begun)) ∙ x_at in
         let unbegun_there : slice_get (unbegun jobs) k ≡ Some state = ap (λ (xs : List JobState). slice_get xs k) (sym unbegun_yet) ∙ state_at in
-        subst (λ (es : List Entry). Stands one job.budget x.ended (entries_of (k + 1) es) state) (sym begun.empty)
+        subst (λ (es : List Entry). AskedSoFar one job.budget x.ended (entries_of (k + 1) es) state) (sym begun.empty)
         (fresh_stands one job.budget x.ended state (fresh_open jobs k x there) (unbegun_at jobs k state unbegun_there));
   };
 }
@@ -145,13 +147,13 @@ between_none made jobs m all was between none =
 -- ---- the picks
 
 pub picked_more : {S : Type 0} (answer : S → ℕ) (after : S → S) (x : S) (s : State) (past es : List Entry) (t : State) (e : Entry) → Leads s past es t → Picked (picks_of answer after (length es) x) s es
-    → chosen t (answer (behind_picks after (length es) x)) ≡ Some e.process → Picked (picks_of answer after (length (es ++ e ∷ [])) x) s (es ++ e ∷ [])
+    → chosen t (answer (after_picks after (length es) x)) ≡ Some e.process → Picked (picks_of answer after (length (es ++ e ∷ [])) x) s (es ++ e ∷ [])
 picked_more answer after x s past [] t e leads picked by = (subst (λ (u : State). chosen u (answer x) ≡ Some e.process) (sym leads) by, tt)
 picked_more answer after x s past (y ∷ es) t e leads picked by = (picked.0, picked_more answer after (after x) (step s y.process y.event).state (past ++ y ∷ []) es t e leads.1 picked.1 by)
 
-pub behind_one_more : {S : Type 0} (after : S → S) (x : S) (es : List Entry) (e : Entry) → behind_picks after (length (es ++ e ∷ [])) x ≡ after (behind_picks after (length es) x)
-behind_one_more after x [] e = refl
-behind_one_more after x (y ∷ es) e = behind_one_more after (after x) es e
+pub after_one_more : {S : Type 0} (after : S → S) (x : S) (es : List Entry) (e : Entry) → after_picks after (length (es ++ e ∷ [])) x ≡ after (after_picks after (length es) x)
+after_one_more after x [] e = refl
+after_one_more after x (y ∷ es) e = after_one_more after (after x) es e
 
 -- ---- between two turns of a whole run
 
@@ -174,7 +176,7 @@ pub record ComesOn {S : Type 0} (answer : S → ℕ) (after : S → S) (x : S) (
   pub between : IsBetween made jobs m all list
   pub origin : m.origin ≡ first.origin
   pub picked : Picked (picks_of answer after (length m.history) x) m.origin m.history
-  pub picker : y ≡ behind_picks after (length m.history) x
+  pub picker : y ≡ after_picks after (length m.history) x
 
 pub comes_begun : {S : Type 0} (answer : S → ℕ) (after : S → S) (x : S) (made : List CreateResult) (jobs : List Job) (m : Run) (all : List JobState) (list : List ℕ) → IsBegun jobs m → IsBetween made jobs m all list
     → ComesOn answer after x m made jobs m all list x
@@ -182,12 +184,12 @@ comes_begun answer after x made jobs m all list begun between = record {
   between = between;
   origin = refl;
   picked = nothing_picked answer after x m.origin m.history begun.empty;
-  picker = subst (λ (es : List Entry). x ≡ behind_picks after (length es) x) (sym begun.empty) refl;
+  picker = subst (λ (es : List Entry). x ≡ after_picks after (length es) x) (sym begun.empty) refl;
 }
 
 -- who is at the place of the next pick is the one that it chooses
-next_chosen : {S : Type 0} (answer : S → ℕ) (after : S → S) (x : S) (m : Run) (list : List ℕ) (y : S) (place p : ℕ) → list ≡ ready_list m.state → y ≡ behind_picks after (length m.history) x → place ≡ answer y % length list
-    → slice_get list place ≡ Some p → chosen m.state (answer (behind_picks after (length m.history) x)) ≡ Some p
+next_chosen : {S : Type 0} (answer : S → ℕ) (after : S → S) (x : S) (m : Run) (list : List ℕ) (y : S) (place p : ℕ) → list ≡ ready_list m.state → y ≡ after_picks after (length m.history) x → place ≡ answer y % length list
+    → slice_get list place ≡ Some p → chosen m.state (answer (after_picks after (length m.history) x)) ≡ Some p
 next_chosen answer after x m list y place p listed picker at by =
     subst (λ n. chosen m.state n ≡ Some p) (ap answer picker)
     (subst (λ (qs : List ℕ). slice_get qs (answer y % length qs) ≡ Some p) listed
@@ -195,7 +197,7 @@ next_chosen answer after x m list y place p listed picker at by =
 
 -- one entry more
 picked_added : {S : Type 0} (answer : S → ℕ) (after : S → S) (x : S) (m m' : Run) (e : Entry) → IsSound m → Picked (picks_of answer after (length m.history) x) m.origin m.history
-    → chosen m.state (answer (behind_picks after (length m.history) x)) ≡ Some e.process → m'.origin ≡ m.origin → m'.history ≡ m.history ++ e ∷ [] → Picked (picks_of answer after (length m'.history) x) m'.origin m'.history
+    → chosen m.state (answer (after_picks after (length m.history) x)) ≡ Some e.process → m'.origin ≡ m.origin → m'.history ≡ m.history ++ e ∷ [] → Picked (picks_of answer after (length m'.history) x) m'.origin m'.history
 picked_added answer after x m m' e sound picked by origin added =
     subst (λ (s : State). Picked (picks_of answer after (length m'.history) x) s m'.history) (sym origin)
     (subst (λ (es : List Entry). Picked (picks_of answer after (length es) x) m.origin es) (sym added) (picked_more answer after x m.origin [] m.history m.state e sound.legal picked by))
@@ -209,7 +211,7 @@ comes_on answer after x first made jobs m all list y place m' all' list' comes a
       between = went.between;
       origin = went.origin ∙ comes.origin;
       picked = picked_added answer after x m m' went.entry comes.between.sound comes.picked by went.origin went.added;
-      picker = ap after comes.picker ∙ sym (behind_one_more after x m.history went.entry) ∙ ap (λ (es : List Entry). behind_picks after (length es) x) (sym went.added);
+      picker = ap after comes.picker ∙ sym (after_one_more after x m.history went.entry) ∙ ap (λ (es : List Entry). after_picks after (length es) x) (sym went.added);
     }
 
 pub ran_so_far : {S : Type 0} (answer : S → ℕ) (after : S → S) (x : S) (first : Run) (made : List CreateResult) (jobs : List Job) (m : Run) (all : List JobState) (list : List ℕ) (y : S) → ComesOn answer after x first made jobs m all list y
@@ -244,10 +246,10 @@ has_halted answer after x first made jobs m all list y place m' call comes at ha
   is = halt.is;
   state = m.state;
   led = subst (λ (s : State). Leads s [] m'.history m.state) (sym halt.same.origin) (subst (λ (es : List Entry). Leads m.origin [] es m.state) (sym halt.same.history) comes.between.sound.legal);
-  picked = subst (λ (es : List Entry). chosen m.state (answer (behind_picks after (length es) x)) ≡ Some halt.process) (sym halt.same.history)
+  picked = subst (λ (es : List Entry). chosen m.state (answer (after_picks after (length es) x)) ≡ Some halt.process) (sym halt.same.history)
       (next_chosen answer after x m list y place halt.process comes.between.ready comes.picker at halt.by);
   asks = λ job one job_at one_at.
-      subst (λ (es : List Entry). event_of (behind (fresh one job.budget) (entries_of halt.process es)) ≡ Some halt.event) (sym halt.same.history) (halt.asks job one job_at one_at);
+      subst (λ (es : List Entry). event_of (process_after (fresh one job.budget) (entries_of halt.process es)) ≡ Some halt.event) (sym halt.same.history) (halt.asks job one job_at one_at);
 }
 
 -- a list is empty where its length is told to be none

@@ -8,5 +8,9 @@ pub mod Running
 pub mod Stepping
 mod Turning
 pub mod TurnLaws
+pub mod ListedJobs
+pub mod JobTurn
+pub mod TurnsFall
+pub mod ReadyAfterTurn
 pub mod StillLaws
 mod WaitLaws

@@ -10,17 +10,18 @@ use Rattle.s38_code.specs.declared.event.Event.{Event}
 use Rattle.s38_code.specs.declared.made.CheckedTemplate.{CheckedTemplate}
 use Rattle.s38_code.specs.declared.reply.Reply.{Reply}
 use Rattle.s38_machine.specs.Stored.{stored_state_of}
-use Rattle.s38_rules.specs.Room.{Room}
+use Rattle.s38_rules.specs.store.Room.{Room}
 use Rattle.s38_rules.specs.declared.verdict.Verdict.{Verdict}
 use Rattle.s38_rules.specs.declared.verdict.Verdict.TheVariants.{Permit, Refuse, Wait}
-use Rattle.s38_rules.specs.Held.{Held}
-use Rattle.s38_rules.specs.Legal.{Leads}
-use Rattle.s38_rules.specs.State.{State, ready, ready_list, waits}
-use Rattle.s38_rules.specs.Step.{awake_verdict, by_verdict, by_waiting, step}
-use Rattle.s38_run.specs.Progress.{AllGoing, AreAwake, IsGoing, waiting_behind}
+use Rattle.s38_rules.specs.state.Held.{Held}
+use Rattle.s38_rules.specs.step.Legal.{Leads}
+use Rattle.s38_rules.specs.state.State.{State, ready, ready_list, waits}
+use Rattle.s38_rules.specs.step.Step.{awake_verdict, by_verdict, by_waiting, step}
+use Rattle.s38_run.specs.Progress.{AreAwake, IsGoing, waiting_after}
 use Rattle.s38_run.proofs.JobLaws.{all_ended}
 use Rattle.s38_run.proofs.ReadyLaws.{OtherReady, none_listed, waiting_ready, with_waiting}
 use Rattle.s38_run.proofs.WaitLaws.{waits_beside}
+use Rattle.s38_rules.specs.step.Histories.{Throughout}
 
 -- ---- one is ready
 
@@ -67,7 +68,7 @@ step_going s p e going = by (waits s p)
     by true = going
     by false = verdict_going s p e (awake_verdict s p e) going refl
 
-pub history_going : (s : State) (history : List Entry) → IsGoing s → AllGoing s history
+pub history_going : (s : State) (history : List Entry) → IsGoing s → Throughout IsGoing s history
 history_going s [] going = going
 history_going s (e ∷ es) going = (going, history_going (step s e.process e.event).state es (step_going s e.process e.event going))
 
@@ -80,12 +81,12 @@ entered_awake : (b : Bool) (s : State) (p : ℕ) (e : Event) → (by_waiting b s
 entered_awake true s p e h = cc
 entered_awake false s p e h = refl
 
-verdict_waiting : (s : State) (p : ℕ) (e : Event) (v : Verdict) → (by_verdict s p e v).state.waiting ≡ waiting_behind (by_verdict s p e v).reply p s.waiting
+verdict_waiting : (s : State) (p : ℕ) (e : Event) (v : Verdict) → (by_verdict s p e v).state.waiting ≡ waiting_after (by_verdict s p e v).reply p s.waiting
 verdict_waiting s p e Permit = refl
 verdict_waiting s p e Wait = refl
 verdict_waiting s p e (Refuse x) = refl
 
-by_waiting_behind : (b : Bool) (s : State) (p : ℕ) (e : Event) → b ≡ false → (by_waiting b s p e).state.waiting ≡ waiting_behind (by_waiting b s p e).reply p s.waiting
+by_waiting_behind : (b : Bool) (s : State) (p : ℕ) (e : Event) → b ≡ false → (by_waiting b s p e).state.waiting ≡ waiting_after (by_waiting b s p e).reply p s.waiting
 by_waiting_behind true s p e h = cc
 by_waiting_behind false s p e h = verdict_waiting s p e (awake_verdict s p e)
 
@@ -93,14 +94,14 @@ step_awake : (s : State) (p : ℕ) (e : Event) → (step s p e).enters ≡ true 
 unfolding step
 step_awake s p e h = entered_awake (waits s p) s p e h
 
-step_waiting : (s : State) (p : ℕ) (e : Event) → (step s p e).enters ≡ true → (step s p e).state.waiting ≡ waiting_behind (step s p e).reply p s.waiting
+step_waiting : (s : State) (p : ℕ) (e : Event) → (step s p e).enters ≡ true → (step s p e).state.waiting ≡ waiting_after (step s p e).reply p s.waiting
 unfolding step
 step_waiting s p e h = by_waiting_behind (waits s p) s p e (entered_awake (waits s p) s p e h)
 
 pub history_awake : (s : State) (before history : List Entry) (end : State) → Leads s before history end → AreAwake s.waiting history
 history_awake s before [] end leads = tt
 history_awake s before (e ∷ es) end leads =
-    let now = step_waiting s e.process e.event leads.0.entered ∙ ap (λ (r : Reply). waiting_behind r e.process s.waiting) leads.0.reply in (
+    let now = step_waiting s e.process e.event leads.0.entered ∙ ap (λ (r : Reply). waiting_after r e.process s.waiting) leads.0.reply in (
       step_awake s e.process e.event leads.0.entered,
       subst (λ (ws : List ℕ). AreAwake ws es) now (history_awake (step s e.process e.event).state (before ++ e ∷ []) es end leads.1),
     )

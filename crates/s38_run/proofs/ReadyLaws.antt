@@ -8,10 +8,10 @@ use Rattle.std.specs.Prelude.{Option, Some, None, filter, nat_lt, slice_get, sli
 use Rattle.std.specs.Option.{option_map}
 use Rattle.std.specs.List.{list_any, range_with_len}
 use Rattle.s38_rules.specs.declared.process.ProcessEntry.{ProcessEntry}
-use Rattle.s38_rules.specs.Effect.{start_at}
-use Rattle.s38_rules.specs.Instruction.{AreKept, unstacked}
-use Rattle.s38_rules.specs.Legal.{IsProcess}
-use Rattle.s38_rules.specs.State.{State, is_early, process_entry, ready, ready_in, runs_before, waits, ready_list}
+use Rattle.s38_rules.specs.step.Effect.{start_at}
+use Rattle.s38_rules.specs.families.Instruction.{AreKept, unstacked}
+use Rattle.s38_rules.specs.step.Legal.{IsProcess}
+use Rattle.s38_rules.specs.state.State.{State, is_early, process_entry, ready, ready_in, ready_list, runs_before, waits}
 
 -- the numbers of the processes, in order
 abbrev process_numbers : State → List ℕ

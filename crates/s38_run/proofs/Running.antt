@@ -12,15 +12,17 @@ use Rattle.s38_code.specs.declared.event.Event.{Event}
 use Rattle.s38_code.specs.declared.made.CreateResult.{CreateResult}
 use Rattle.s38_code.specs.declared.reply.Reply.{Reply}
 use Rattle.s38_code.specs.declared.reply.Reply.TheVariants.{MustWait}
-use Rattle.s38_code.specs.History.{entries_of, entry_after, is_of}
-use Rattle.s38_rules.specs.Step.{step}
-use Rattle.s38_rules.specs.Legal.{Run, after}
-use Rattle.s38_process.specs.Process.{ProcessState, absorbed, event_of}
+use Rattle.s38_code.specs.History.{entries_of, entry_after, is_of_process}
+use Rattle.s38_rules.specs.step.Step.{step}
+use Rattle.s38_rules.specs.step.Legal.{Run, after}
+use Rattle.s38_process.specs.Process.{ProcessState, event_of}
+use Rattle.s38_process.specs.AfterReply.{absorbed}
 use Rattle.s38_run.specs.declared.job_state.JobState.{JobState}
 use Rattle.s38_run.specs.declared.job_state.JobState.TheVariants.{Unbegun, Running, Over}
 use Rattle.s38_run.specs.declared.outcome.Outcome.{Outcome}
 use Rattle.s38_run.specs.declared.outcome.Outcome.TheVariants.{Finished, Waits, Refused, Changed}
-use Rattle.s38_run.specs.Running.{doing, left, left_in_all, left_of, outcome_of, state_behind}
+use Rattle.s38_run.specs.Running.{left, left_in_all, left_of}
+use Rattle.s38_run.specs.Turns.{doing, job_after, outcome_of}
 use Rattle.s38_run.proofs.Asking.{falls, waits_left}
 
 -- ---- the history
@@ -32,10 +34,10 @@ own_entry : (q : ℕ) (e : Entry) → e.process ≡ q → entries_of q (e ∷ []
 own_entry q e h = let f : (e.process == q) ≡ true = grind (arith, nat_tests) in rw f refl
 
 pub entries_other : (q : ℕ) (h : List Entry) (e : Entry) → q ≢ e.process → entries_of q (h ++ e ∷ []) ≡ entries_of q h
-entries_other q h e n = filter-append (is_of q) h (e ∷ []) ∙ ap (λ es. entries_of q h ++ es) (other_entry q e n) ∙ append-nil (entries_of q h)
+entries_other q h e n = filter-append (is_of_process q) h (e ∷ []) ∙ ap (λ es. entries_of q h ++ es) (other_entry q e n) ∙ append-nil (entries_of q h)
 
 pub entries_own : (q : ℕ) (h : List Entry) (e : Entry) → e.process ≡ q → entries_of q (h ++ e ∷ []) ≡ entries_of q h ++ e ∷ []
-entries_own q h e n = filter-append (is_of q) h (e ∷ []) ∙ ap (λ es. entries_of q h ++ es) (own_entry q e n)
+entries_own q h e n = filter-append (is_of_process q) h (e ∷ []) ∙ ap (λ es. entries_of q h ++ es) (own_entry q e n)
 
 -- where the answer is entered, the history has one entry more
 pub history_more : (m : Run) (mark p : ℕ) (e : Event) → (step m.state p e).enters ≡ true → (after m mark p e).history ≡ m.history ++ entry_after m.history p e (step m.state p e).reply ∷ []
@@ -53,8 +55,8 @@ left_of_doing one job Unbegun = refl
 left_of_doing one job (Running d) = refl
 left_of_doing one job Over = refl
 
--- a state behind a turn has no more than its process
-behind_left : (job : Job) (o : Outcome) (d : ProcessState) → left_of job (state_behind o d) ≤ left d
+-- a state after a turn has no more than its process
+behind_left : (job : Job) (o : Outcome) (d : ProcessState) → left_of job (job_after o d) ≤ left d
 behind_left job Finished d = omega arith
 behind_left job Waits d = omega arith
 behind_left job Refused d = omega arith
@@ -62,13 +64,13 @@ behind_left job Changed d = omega arith
 
 -- each reply but MustWait brings a job nearer to its end
 pub turn_falls : (one : CreateResult) (job : Job) (state : JobState) (e : Event) (r : Reply) → event_of (doing one job.budget state) ≡ Some e → r ≢ MustWait
-    → left_of job (state_behind (outcome_of e r) (absorbed (doing one job.budget state) r)) < left_of job state
+    → left_of job (job_after (outcome_of e r) (absorbed (doing one job.budget state) r)) < left_of job state
 turn_falls one job state e r asks answered =
     omega (arith, behind_left job (outcome_of e r) (absorbed (doing one job.budget state) r), falls (doing one job.budget state) e r asks answered, left_of_doing one job state)
 
 -- and MustWait brings none further from it
 pub turn_waits : (one : CreateResult) (job : Job) (state : JobState) (e : Event) → event_of (doing one job.budget state) ≡ Some e
-    → left_of job (state_behind (outcome_of e MustWait) (absorbed (doing one job.budget state) MustWait)) ≤ left_of job state
+    → left_of job (job_after (outcome_of e MustWait) (absorbed (doing one job.budget state) MustWait)) ≤ left_of job state
 turn_waits one job state e asks =
     omega (arith, behind_left job (outcome_of e MustWait) (absorbed (doing one job.budget state) MustWait), waits_left (doing one job.budget state) e asks, left_of_doing one job state)
 

@@ -9,12 +9,12 @@ use Rattle.s38_code.specs.declared.reply.Reply.TheVariants.{Done, Signal, MustWa
 use Rattle.s38_rules.specs.declared.process.ProcessEntry.{ProcessEntry}
 use Rattle.s38_rules.specs.declared.verdict.Verdict.{Verdict}
 use Rattle.s38_rules.specs.declared.verdict.Verdict.TheVariants.{Permit, Wait, Refuse}
-use Rattle.s38_rules.specs.State.{State, is_early, ready, ready_in, process_entry, waits}
-use Rattle.s38_rules.specs.Effect.{effect_of, end_at, start_at}
-use Rattle.s38_rules.specs.Step.{Stepped, awake_verdict, by_verdict, by_waiting, step}
-use Rattle.s38_process.specs.Process.{is_finish}
-use Rattle.s38_rules.specs.Rows.{row}
-use Rattle.s38_rules.specs.Instruction.{AreKept}
+use Rattle.s38_rules.specs.state.State.{State, is_early, process_entry, ready, ready_in, waits}
+use Rattle.s38_rules.specs.step.Effect.{effect_of, end_at, start_at}
+use Rattle.s38_rules.specs.step.Step.{Stepped, awake_verdict, by_verdict, by_waiting, step}
+use Rattle.s38_process.specs.AfterReply.{is_finish}
+use Rattle.s38_rules.specs.families.Rows.{row}
+use Rattle.s38_rules.specs.families.Instruction.{AreKept}
 use Rattle.s38_rules.proofs.Laws.{act_keeps, all_decommitted_keeps, kept_count}
 use Rattle.s38_rules.proofs.RoomLaws.{end_permitted}
 use Rattle.s38_rules.proofs.StoreLaws.{stored_beside}
@@ -33,7 +33,7 @@ pub record GoesTo (s : State) (p : ℕ) (e : Event) (x : Stepped) : Type 0 where
   pub entered : x.enters ≡ true
   pub stay : OthersStay s.processes x.state.processes (p - 1)
   pub moves : MovesBy s p x.reply x.state
-  -- who is ready is decided as before, but behind an end
+  -- who is ready is decided as before, but after an end
   pub same : is_finish e ≡ false → outline x.state.processes ≡ outline s.processes
   pub ended : is_finish e ≡ true → HasEnded x.state.processes (p - 1) × (x.reply ≢ MustWait)
 

@@ -2,8 +2,8 @@
 use Rattle.std.proofs.Common.{◌≡◌, ◌≤◌, ℕ, arith, refl, sym, ap, ◌∙◌, subst}
 use Rattle.std.specs.Prelude.{Result, Ok, Err, OnErr, OnOk}
 use Rattle.s38_code.specs.declared.event.Event.{Event}
-use Rattle.s38_rules.specs.Legal.{IsSound, Run, after, begun}
-use Rattle.s38_rules.specs.State.{State}
+use Rattle.s38_rules.specs.step.Legal.{IsSound, Run, after, begun}
+use Rattle.s38_rules.specs.state.State.{State}
 use Rattle.s38_rules.proofs.Laws.{sound_begun}
 use Rattle.s38_run.specs.Still.{Beginning, IsStill, beginning}
 

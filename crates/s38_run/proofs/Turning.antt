@@ -5,10 +5,11 @@ use Rattle.s38_code.specs.declared.asked.Asked.{Asked}
 use Rattle.s38_code.specs.declared.event.Event.{Event}
 use Rattle.s38_code.specs.declared.reply.Reply.{Reply}
 use Rattle.s38_code.specs.Asking.{reply_by}
-use Rattle.s38_process.specs.Process.{ProcessState, absorbed, event_of, is_finish}
-use Rattle.s38_rules.specs.Legal.{Run, after}
-use Rattle.s38_rules.specs.Step.{step}
-use Rattle.s38_run.specs.Running.{BrokeOff, IsAsBefore, Turned, WasStopped, outcome_of}
+use Rattle.s38_process.specs.Process.{ProcessState, event_of}
+use Rattle.s38_process.specs.AfterReply.{absorbed, is_finish}
+use Rattle.s38_rules.specs.step.Legal.{Run, after}
+use Rattle.s38_rules.specs.step.Step.{step}
+use Rattle.s38_run.specs.Turns.{BrokeOff, IsAsBefore, Turned, WasStopped, outcome_of}
 use Rattle.s38_run.specs.declared.outcome.Outcome.{Outcome}
 
 pub is_there : (o : Option Reply) (y : Reply) → o ≡ Some y → is_some o ≡ true
@@ -37,8 +38,8 @@ pub not_answered : (m m' : Run) → m'.origin ≡ m.origin → m'.history ≡ m.
 not_answered m m' origin history = record { origin = origin; history = history }
 
 -- it was answered
-pub broke_behind : (n : ℕ) (m m' : Run) (d : ProcessState) (e : Event) → event_of d ≡ Some e → m' ≡ after m m'.moment n e → m.moment ≤ m'.moment → BrokeOff n m d m'
-broke_behind n m m' d e asks moved later = inr (record { event = e; asks = asks; machine = moved; later = later })
+pub broke_after : (n : ℕ) (m m' : Run) (d : ProcessState) (e : Event) → event_of d ≡ Some e → m' ≡ after m m'.moment n e → m.moment ≤ m'.moment → BrokeOff n m d m'
+broke_after n m m' d e asks moved later = inr (record { event = e; asks = asks; machine = moved; later = later })
 
 -- the machine stopped
 pub was_stopped : (n : ℕ) (m m' : Run) (d : ProcessState) (e : Event) (call : Option (ℕ × Event)) → event_of d ≡ Some e → call ≡ Some (n, e) → IsAsBefore m m' → WasStopped n m d m' call

@@ -9,11 +9,11 @@ use Rattle.s38_code.specs.declared.event.Event.TheVariants.{Start, Act, Finish}
 use Rattle.s38_code.specs.declared.event.Request.{Request}
 use Rattle.s38_rules.specs.declared.process.ProcessEntry.{ProcessEntry}
 use Rattle.s38_rules.specs.declared.verdict.Verdict.TheVariants.{Refuse, Wait}
-use Rattle.s38_rules.specs.Rows.{row}
-use Rattle.s38_rules.specs.State.{State, is_early, is_last_ready, others_stand, process_entry, ready, ready_in, waits}
-use Rattle.s38_rules.specs.Verdict.{may_wait, of_failure, of_request, refused_by, ruled_verdict, start_failure, start_verdict, unless_last}
+use Rattle.s38_rules.specs.families.Rows.{row}
+use Rattle.s38_rules.specs.state.State.{State, is_early, is_last_ready, no_other_ready, process_entry, ready, ready_in, waits}
+use Rattle.s38_rules.specs.step.Verdict.{may_wait, of_failure, of_request, refused_by, ruled_verdict, start_failure, start_verdict, unless_last}
 use Rattle.s38_rules.proofs.RoomLaws.{waits_by_rules}
-use Rattle.s38_rules.specs.Step.{awake_verdict}
+use Rattle.s38_rules.specs.step.Step.{awake_verdict}
 use Rattle.s38_run.proofs.ReadyLaws.{OtherReady}
 
 -- ---- a start of the current stage does not wait
@@ -72,10 +72,10 @@ differ n p h = λ e.
     two : false ≡ true → ⊥
     two g = cc
 
-another_from : (s : State) (p n : ℕ) (xs : List ProcessEntry) → others_stand s p n xs ≡ false → Another s p n xs
+another_from : (s : State) (p n : ℕ) (xs : List ProcessEntry) → no_other_ready s p n xs ≡ false → Another s p n xs
 another_from s p n [] h = cc
 another_from s p n (x ∷ xs) h =
-    elim (stands_by (n == p) (ready_in s n (Some x)) (others_stand s p (n + 1) xs) h) as (λ _. Another s p n (x ∷ xs)) [
+    elim (stands_by (n == p) (ready_in s n (Some x)) (no_other_ready s p (n + 1) xs) h) as (λ _. Another s p n (x ∷ xs)) [
       | inl w ↦
           let first : n ≡ n + 0 = omega arith in
           record { place = 0; entry = x; there = refl; other = subst (λ (m : ℕ). m ≢ p) first (differ n p w.0); ready = subst (λ (m : ℕ). ready_in s m (Some x) ≡ true) first w.1 }

@@ -1,8 +1,8 @@
 -- Who goes next: of the processes that are ready, the one that a number chooses.
 use Rattle.std.specs.Prelude.{◌≡◌, ◌%◌, ℕ, List, [], ◌∷◌, Option, Some, length, slice_get}
 use Rattle.s38_code.specs.declared.entry.Entry.{Entry}
-use Rattle.s38_rules.specs.State.{State, ready_list}
-use Rattle.s38_rules.specs.Step.{step}
+use Rattle.s38_rules.specs.state.State.{State, ready_list}
+use Rattle.s38_rules.specs.step.Step.{step}
 
 -- of n that are ready a pick chooses the one at its place modulo n
 abbrev pub chosen : State → ℕ → Option ℕ

@@ -6,10 +6,10 @@ abbrev pub picks_of : {S : Type 0} → (S → ℕ) → (S → S) → ℕ → S �
 picks_of answer after zero x = []
 picks_of answer after (suc n) x = answer x ∷ picks_of answer after n (after x)
 
--- the state behind n answers
-abbrev pub behind_picks : {S : Type 0} → (S → S) → ℕ → S → S
-behind_picks after zero x = x
-behind_picks after (suc n) x = behind_picks after n (after x)
+-- the state after n answers
+abbrev pub after_picks : {S : Type 0} → (S → S) → ℕ → S → S
+after_picks after zero x = x
+after_picks after (suc n) x = after_picks after n (after x)
 
 -- ---- by a number
 
@@ -20,11 +20,7 @@ number_after x = (x * 6364136223846793005 + 1442695040888963407) % 2 ^ 64
 abbrev pub number_answer : ℕ → ℕ
 number_answer x = number_after x / 2 ^ 33
 
--- the first answers of the picker of a number
-abbrev pub picks_by : ℕ → ℕ → List ℕ
-picks_by n count = picks_of number_answer number_after count n
-
--- ---- by a list, and 0 behind its end
+-- ---- by a list, and 0 after its end
 
 abbrev pub list_answer : List ℕ → ℕ
 list_answer [] = 0

@@ -5,8 +5,8 @@ use Rattle.s38_code.specs.declared.entry.Entry.{Entry}
 use Rattle.s38_code.specs.declared.reply.Reply.{Reply}
 use Rattle.s38_code.specs.declared.reply.Reply.TheVariants.{Done, MustWait, Signal}
 use Rattle.s38_rules.specs.declared.process.ProcessEntry.{ProcessEntry}
-use Rattle.s38_rules.specs.State.{State, ready_list}
-use Rattle.s38_rules.specs.Step.{step}
+use Rattle.s38_rules.specs.state.State.{State, ready_list}
+use Rattle.s38_rules.specs.step.Step.{step}
 
 -- ---- one is ready
 
@@ -18,18 +18,13 @@ AllEnded s = (k : ℕ) (x : ProcessEntry) → slice_get s.processes k ≡ Some x
 abbrev pub IsGoing : State → Type 0
 IsGoing s = ready_list s ≡ [] → AllEnded s
 
--- so it is in each state on the way
-abbrev pub AllGoing : State → List Entry → Type 0
-AllGoing s [] = IsGoing s
-AllGoing s (e ∷ es) = IsGoing s × AllGoing (step s e.process e.event).state es
-
 -- ---- who waits is silent
 
--- who waits behind an answer to a process: an effect wakes all
-abbrev pub waiting_behind : Reply → ℕ → List ℕ → List ℕ
-waiting_behind (Done values) p waiting = []
-waiting_behind (Signal x) p waiting = waiting
-waiting_behind MustWait p waiting = p ∷ waiting
+-- who waits after an answer to a process: an effect wakes all
+abbrev pub waiting_after : Reply → ℕ → List ℕ → List ℕ
+waiting_after (Done values) p waiting = []
+waiting_after (Signal x) p waiting = waiting
+waiting_after MustWait p waiting = p ∷ waiting
 
 abbrev pub is_waiting : ℕ → List ℕ → Bool
 is_waiting p waiting = list_any (λ w. w == p) waiting
@@ -37,4 +32,4 @@ is_waiting p waiting = list_any (λ w. w == p) waiting
 -- each entry is of a process that does not wait: one that was told to wait has no further entry before the next effect
 abbrev pub AreAwake : List ℕ → List Entry → Type 0
 AreAwake waiting [] = Unit {0}
-AreAwake waiting (e ∷ es) = (is_waiting e.process waiting ≡ false) × AreAwake (waiting_behind e.reply e.process waiting) es
+AreAwake waiting (e ∷ es) = (is_waiting e.process waiting ≡ false) × AreAwake (waiting_after e.reply e.process waiting) es

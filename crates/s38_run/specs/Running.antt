@@ -1,27 +1,23 @@
 -- How far the jobs have come, while they are run.
-use Rattle.std.specs.Prelude.{◌≡◌, ◌≢◌, ℕ, ◌+◌, ◌-◌, ◌*◌, ◌<◌, ◌≤◌, ◌==◌, ◌⊎◌, Bool, true, not, MatchBool, List, [], ◌∷◌, ◌++◌, filter, length, map, slice_get, slice_index_or, Option, Some, if◌then◌else◌}
+use Rattle.std.specs.Prelude.{◌≡◌, ◌≢◌, ℕ, ◌+◌, ◌-◌, ◌*◌, ◌<◌, ◌⊎◌, Bool, true, MatchBool, List, [], ◌∷◌, ◌++◌, length, map, slice_get, slice_index_or, Option, Some}
 use Rattle.s38_code.specs.declared.deck.Job.{Job}
 use Rattle.s38_code.specs.declared.entry.Entry.{Entry}
 use Rattle.s38_code.specs.declared.event.Event.{Event}
-use Rattle.s38_code.specs.declared.event.Event.TheVariants.{Start, Act, Finish}
 use Rattle.s38_code.specs.declared.made.CreateResult.{CreateResult}
-use Rattle.s38_code.specs.declared.reply.Reply.{Reply}
-use Rattle.s38_code.specs.declared.reply.Reply.TheVariants.{Done, Signal, MustWait}
 use Rattle.s38_code.specs.History.{entries_of}
 use Rattle.s38_rules.specs.declared.process.ProcessEntry.{ProcessEntry}
 use Rattle.s38_process.specs.declared.status.Status.{Status}
 use Rattle.s38_process.specs.declared.status.Status.TheVariants.{Fresh, Running, Ending, Ended}
-use Rattle.s38_rules.specs.State.{State, ready_list}
-use Rattle.s38_rules.specs.Step.{step}
-use Rattle.s38_rules.specs.Legal.{Run, IsSound, after}
-use Rattle.s38_process.specs.Process.{ProcessState, RanFrom, absorbed, behind, ends_by_finish, event_of, fresh}
+use Rattle.s38_rules.specs.state.State.{ready_list}
+use Rattle.s38_rules.specs.step.Legal.{Run, IsSound, after}
+use Rattle.s38_process.specs.Process.{ProcessState, fresh}
+use Rattle.s38_process.specs.AfterReply.{RanFrom, ends_by_finish, process_after}
 use Rattle.s38_run.specs.Picked.{Picked}
-use Rattle.s38_run.specs.Pickers.{behind_picks, picks_of}
+use Rattle.s38_run.specs.Pickers.{after_picks, picks_of}
 use Rattle.s38_run.specs.Whole.{AllByProgram, AllRan, AsksNext, WasHalted, opened_for}
 use Rattle.s38_run.specs.declared.job_state.JobState.{JobState}
 use Rattle.s38_run.specs.declared.job_state.JobState.TheVariants as states
-use Rattle.s38_run.specs.declared.outcome.Outcome.{Outcome}
-use Rattle.s38_run.specs.declared.outcome.Outcome.TheVariants as outcomes
+use Rattle.s38_run.specs.Turns.{IsAsBefore, doing}
 
 -- ---- one process
 
@@ -35,7 +31,7 @@ left_by d Ended = 0
 abbrev pub left : ProcessState → ℕ
 left d = left_by d d.status
 
--- the other processes stand as they stood
+-- the other processes are as they were
 pub record OthersStay (xs ys : List ProcessEntry) (at : ℕ) : Type 0 where
   pub count : length ys ≡ length xs
   pub same : (k : ℕ) (d : ProcessEntry) → k ≢ at → slice_index_or ys k d ≡ slice_index_or xs k d
@@ -44,99 +40,21 @@ pub record OthersStay (xs ys : List ProcessEntry) (at : ℕ) : Type 0 where
 pub record HasEnded (xs : List ProcessEntry) (at : ℕ) : Type 0 where
   pub is : (d : ProcessEntry) → (slice_index_or xs at d).ended ≡ true
 
--- ---- one turn
-
--- what a reply is for those that are ready
-abbrev pub outcome_by : Reply → Outcome
-outcome_by (Done vs) = outcomes.Changed
-outcome_by (Signal x) = outcomes.Refused
-outcome_by MustWait = outcomes.Waits
-
--- what an event and its reply are for those that are ready
-abbrev pub outcome_of : Event → Reply → Outcome
-outcome_of Start reply = outcome_by reply
-outcome_of (Act depth request) reply = outcome_by reply
-outcome_of (Finish cause) reply = outcomes.Finished
-
--- one event was asked, and answered
-pub record Turned (number : ℕ) (m : Run) (d : ProcessState) (o : Outcome) (m' : Run) (d' : ProcessState) : Type 0 where
-  pub event : Event
-  pub asks : event_of d ≡ Some event
-  pub machine : m' ≡ after m m'.moment number event
-  pub later : m.moment ≤ m'.moment
-  pub process : d' ≡ absorbed d (step m.state number event).reply
-  pub outcome : o ≡ outcome_of event (step m.state number event).reply
-
--- nothing was entered
-pub record IsAsBefore (m m' : Run) : Type 0 where
-  pub origin : m'.origin ≡ m.origin
-  pub history : m'.history ≡ m.history
-
--- what a process asks was answered
-pub record WasAnswered (number : ℕ) (m : Run) (d : ProcessState) (m' : Run) : Type 0 where
-  pub event : Event
-  pub asks : event_of d ≡ Some event
-  pub machine : m' ≡ after m m'.moment number event
-  pub later : m.moment ≤ m'.moment
-
--- a turn was broken off, before its answer or behind it
-abbrev pub BrokeOff : ℕ → Run → ProcessState → Run → Type 0
-BrokeOff number m d m' = IsAsBefore m m' ⊎ WasAnswered number m d m'
-
--- what a process asks was answered Stopped
-pub record WasStopped (number : ℕ) (m : Run) (d : ProcessState) (m' : Run) (call : Option (ℕ × Event)) : Type 0 where
-  pub event : Event
-  pub asks : event_of d ≡ Some event
-  pub is : call ≡ Some (number, event)
-  pub same : IsAsBefore m m'
-
--- the process of a job; it is fresh before its first turn
-abbrev pub doing : CreateResult → ℕ → JobState → ProcessState
-doing made budget states.Unbegun = fresh made budget
-doing made budget (states.Running process) = process
-doing made budget states.Over = record (fresh made budget) { status = Ended }
-
--- the process of a job took a turn, and stands in its place
-pub record WentInPlace (number : ℕ) (m : Run) (d : ProcessState) (outcome : Outcome) (m' : Run) (new : JobState) : Type 0 where
-  pub process : ProcessState
-  pub turned : Turned number m d outcome m' process
-  pub state : new ≡ states.Running process
-
--- how far a job has come behind a turn; its process is kept up to its end
-abbrev pub state_behind : Outcome → ProcessState → JobState
-state_behind outcomes.Finished process = states.Over
-state_behind outcomes.Waits process = states.Running process
-state_behind outcomes.Refused process = states.Running process
-state_behind outcomes.Changed process = states.Running process
-
--- a job took a turn
-pub record TookTurn (number : ℕ) (made : CreateResult) (budget : ℕ) (m : Run) (old : JobState) (outcome : Outcome) (m' : Run) (new : JobState) : Type 0 where
-  pub process : ProcessState
-  pub turned : Turned number m (doing made budget old) outcome m' process
-  pub state : new ≡ state_behind outcome process
-
--- who is ready behind a turn, by who was before it, and by whether some process waited then
-abbrev pub ready_behind : State → ℕ → Bool → Outcome → List ℕ → List ℕ
-ready_behind s process waited outcomes.Finished ready = ready_list s
-ready_behind s process waited outcomes.Waits ready = filter (λ q. not (process == q)) ready
-ready_behind s process waited outcomes.Refused ready = ready
-ready_behind s process waited outcomes.Changed ready = if waited then ready_list s else ready
-
 -- ---- all jobs
 
 -- before the first turn
 abbrev pub unbegun : List Job → List JobState
 unbegun jobs = map (λ job. states.Unbegun) jobs
 
--- the entries are what a job's process asked up to here: it has ended, or stands so
-pub record Stands (made : CreateResult) (budget : ℕ) (ended : Bool) (entries : List Entry) (state : JobState) : Type 0 where
+-- the entries are what a job's process asked up to here: it has ended, or is in this state
+pub record AskedSoFar (made : CreateResult) (budget : ℕ) (ended : Bool) (entries : List Entry) (state : JobState) : Type 0 where
   pub by_program : RanFrom (fresh made budget) entries
   pub is : MatchBool ended (ends_by_finish entries ≡ true)
-      ((behind (fresh made budget) entries ≡ doing made budget state) × ((doing made budget state).status ≢ Ended))
+      ((process_after (fresh made budget) entries ≡ doing made budget state) × ((doing made budget state).status ≢ Ended))
 
-pub record EachStands (made : List CreateResult) (jobs : List Job) (m : Run) (states : List JobState) : Type 0 where
+pub record EachAskedSoFar (made : List CreateResult) (jobs : List Job) (m : Run) (states : List JobState) : Type 0 where
   pub each : (k : ℕ) (x : ProcessEntry) (job : Job) (one : CreateResult) (state : JobState) → slice_get m.state.processes k ≡ Some x → slice_get jobs k ≡ Some job → slice_get made k ≡ Some one
-      → slice_get states k ≡ Some state → Stands one job.budget x.ended (entries_of (k + 1) m.history) state
+      → slice_get states k ≡ Some state → AskedSoFar one job.budget x.ended (entries_of (k + 1) m.history) state
 
 -- between two turns
 pub record IsBetween (made : List CreateResult) (jobs : List Job) (m : Run) (states : List JobState) (list : List ℕ) : Type 0 where
@@ -146,7 +64,7 @@ pub record IsBetween (made : List CreateResult) (jobs : List Job) (m : Run) (sta
   pub count_states : length states ≡ length jobs
   pub ready : list ≡ ready_list m.state
   pub awake : ready_list m.state ≡ [] → m.state.waiting ≡ []
-  pub each : EachStands made jobs m states
+  pub each : EachAskedSoFar made jobs m states
 
 -- how many events a job asks at most
 abbrev pub left_of : Job → JobState → ℕ
@@ -201,12 +119,12 @@ pub record RanSoFar {S : Type 0} (answer : S → ℕ) (after : S → S) (x : S) 
   pub picked : Picked (picks_of answer after (length m'.history) x) m'.origin m'.history
   pub by_program : AllByProgram made jobs m'.history
 
--- and each is over, behind the picks up to y
+-- and each is over, after the picks up to y
 pub record IsOver {S : Type 0} (after : S → S) (x y : S) (made : List CreateResult) (jobs : List Job) (m : Run) : Type 0 where
   pub sound : IsSound m
-  pub picker : y ≡ behind_picks after (length m.history) x
+  pub picker : y ≡ after_picks after (length m.history) x
   pub ran : AllRan made jobs m.history
 
 -- or the machine has stopped, at the turn that the next pick from x on chooses
 abbrev pub HasHalted : {S : Type 0} → (S → ℕ) → (S → S) → S → List CreateResult → List Job → Run → Option (ℕ × Event) → Type 0
-HasHalted answer after x made jobs m call = WasHalted made jobs (answer (behind_picks after (length m.history) x)) m call
+HasHalted answer after x made jobs m call = WasHalted made jobs (answer (after_picks after (length m.history) x)) m call

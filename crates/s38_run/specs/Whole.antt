@@ -7,9 +7,10 @@ use Rattle.s38_code.specs.declared.event.Event.{Event}
 use Rattle.s38_code.specs.declared.made.CreateResult.{CreateResult}
 use Rattle.s38_code.specs.History.{entries_of}
 use Rattle.s38_machine.specs.Stored.{stored_state_of}
-use Rattle.s38_rules.specs.Legal.{IsSound, Leads, Run}
-use Rattle.s38_rules.specs.State.{State}
-use Rattle.s38_process.specs.Process.{RanFrom, behind, event_of, fresh, ends_by_finish}
+use Rattle.s38_rules.specs.step.Legal.{IsSound, Leads, Run}
+use Rattle.s38_rules.specs.state.State.{State}
+use Rattle.s38_process.specs.Process.{event_of, fresh}
+use Rattle.s38_process.specs.AfterReply.{RanFrom, ends_by_finish, process_after}
 use Rattle.s38_run.specs.Picked.{Picked, chosen}
 
 -- ---- the beginning
@@ -26,10 +27,10 @@ pub record IsBegun (jobs : List Job) (m : Run) : Type 0 where
 
 -- ---- the entries of the jobs
 
--- an event is what a process asks next, behind its entries
+-- an event is what a process asks next, after its entries
 abbrev pub AsksNext : List CreateResult → List Job → List Entry → ℕ → Event → Type 0
 AsksNext made jobs history process event = (job : Job) (one : CreateResult) → slice_get jobs (process - 1) ≡ Some job → slice_get made (process - 1) ≡ Some one
-    → event_of (behind (fresh one job.budget) (entries_of process history)) ≡ Some event
+    → event_of (process_after (fresh one job.budget) (entries_of process history)) ≡ Some event
 
 -- the entries of each job's process are by its program
 pub record AllByProgram (made : List CreateResult) (jobs : List Job) (history : List Entry) : Type 0 where

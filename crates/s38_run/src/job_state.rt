@@ -1,7 +1,8 @@
 ghost use Rattle.std.specs.Prelude.{◌≡◌, ◌≢◌, IfOk, OnOk};
 ghost use Rattle.s38_process.specs.Process.{fresh};
 ghost use Rattle.s38_process.specs.declared.status.Status.{Status};
-ghost use Rattle.s38_run.specs.Running.{doing, unbegun};
+ghost use Rattle.s38_run.specs.Running.{unbegun};
+ghost use Rattle.s38_run.specs.Turns.{doing};
 
 use s38_base::{NoMemory, TryClone};
 use s38_code::{CreateResult, Job};
@@ -27,7 +28,7 @@ pub fn unbegun(alloc: Global, jobs: &[Job]) -> Result<Vec<JobState>, NoMemory>
     Ok(states)
 }
 
-/// The process of a job begins. It stands apart, so that a turn of one that has begun makes no room for it.
+/// The process of a job begins. This is not inlined, so that a turn of one that has begun makes no room for it.
 #[inline(never)]
 fn begin_first(
     alloc: Global,

@@ -1,9 +1,10 @@
 ghost use Rattle.std.specs.Prelude.{◌≡◌, ◌-◌, ◌<◌, ◌^◌, ◌==◌, not, IsErrOf, OnErr, OnOk, filter, length, vec_len};
 ghost use Rattle.s38_code.specs.declared.step.StepFault.{StepFault};
-ghost use Rattle.s38_rules.specs.Legal.{IsSound};
+ghost use Rattle.s38_rules.specs.step.Legal.{IsSound};
 ghost use Rattle.s38_run.specs.Picked.{Picked};
-ghost use Rattle.s38_run.specs.Pickers.{behind_picks, picks_of};
-ghost use Rattle.s38_run.specs.Running.{CameOff, CameToHalt, HasHalted, IsBetween, IsOver, RanSoFar, WentOn, ready_behind};
+ghost use Rattle.s38_run.specs.Pickers.{after_picks, picks_of};
+ghost use Rattle.s38_run.specs.Running.{CameOff, CameToHalt, HasHalted, IsBetween, IsOver, RanSoFar, WentOn};
+ghost use Rattle.s38_run.specs.Turns.{ready_after};
 ghost use Rattle.s38_run.specs.Whole.{AllByProgram, AllRan, IsBegun, WasHalted};
 ghost use Rattle.s38_run.specs.declared.run_end.RunEnd.{RunEnd};
 
@@ -24,7 +25,7 @@ fn leave(ready: &mut Vec<u32>, process: u32)
     ready.retain(|q| process != *q);
 }
 
-/// Who is ready behind a turn of a process. The machine is asked only where others may be ready now.
+/// Who is ready after a turn of a process. The machine is asked only where others may be ready now.
 fn update<M: RunMachine>(
     machine: &M,
     ready: &mut Vec<u32>,
@@ -35,7 +36,7 @@ fn update<M: RunMachine>(
     requires sound { M.is_sound machine.now }
     requires going { M.is_going machine.now }
     requires few { length (M.run machine.now).state.processes < 2 ^ 32 - 1 }
-    ensures { OnOk result (ready.new.items ≡ ready_behind (M.run machine.now).state process waited outcome ready.old.items) }
+    ensures { OnOk result (ready.new.items ≡ ready_after (M.run machine.now).state process waited outcome ready.old.items) }
 {
     match outcome {
         Outcome::Finished => machine.ready_list(ready),
@@ -183,11 +184,11 @@ pub fn serial<M: RunMachine + Drop, P: Picker>(
     // Each process has ended.
     ensures going { result.1 ≡ RunEnd.Complete → M.is_going result.0 }
     ensures run { result.1 ≡ RunEnd.Complete → IsSound (M.run result.0) }
-    ensures picker { result.1 ≡ RunEnd.Complete → picker.new ≡ behind_picks P.after (length (M.run result.0).history) picker.old }
+    ensures picker { result.1 ≡ RunEnd.Complete → picker.new ≡ after_picks P.after (length (M.run result.0).history) picker.old }
     ensures ran { result.1 ≡ RunEnd.Complete → AllRan made.now jobs.now (M.run result.0).history }
 
     // The machine has stopped, at the turn that the next pick chooses.
-    ensures stopped { result.1 ≡ RunEnd.Stopped → WasHalted made.now jobs.now (P.answer (behind_picks P.after (length (M.run result.0).history) picker.old)) (M.run result.0) (M.stopped result.0) }
+    ensures stopped { result.1 ≡ RunEnd.Stopped → WasHalted made.now jobs.now (P.answer (after_picks P.after (length (M.run result.0).history) picker.old)) (M.run result.0) (M.stopped result.0) }
 {
     let mut machine = machine;
     let run = run_on(alloc, &mut machine, jobs, made, picker);

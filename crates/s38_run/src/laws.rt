@@ -2,18 +2,19 @@ ghost use Rattle.std.specs.Prelude.{◌≡◌, ℕ, List, Option, length};
 ghost use Rattle.s38_machine.specs.Stored.{stored_state_of};
 ghost use Rattle.s38_code.specs.declared.deck.Job.{Job};
 ghost use Rattle.s38_code.specs.declared.made.CreateResult.{CreateResult};
-ghost use Rattle.s38_rules.specs.Legal.{Run};
+ghost use Rattle.s38_rules.specs.step.Legal.{Run};
 ghost use Rattle.s38_code.specs.declared.entry.Entry.{Entry};
 ghost use Rattle.s38_code.specs.declared.event.Event.{Event};
 ghost use Rattle.s38_code.specs.declared.made.CheckedTemplate.{CheckedTemplate};
-ghost use Rattle.s38_rules.specs.Held.{Held};
-ghost use Rattle.s38_rules.specs.Legal.{Leads};
-ghost use Rattle.s38_rules.specs.Room.{Room};
-ghost use Rattle.s38_rules.specs.State.{State};
-ghost use Rattle.s38_rules.specs.Step.{step};
+ghost use Rattle.s38_rules.specs.state.Held.{Held};
+ghost use Rattle.s38_rules.specs.step.Legal.{Leads};
+ghost use Rattle.s38_rules.specs.store.Room.{Room};
+ghost use Rattle.s38_rules.specs.state.State.{State};
+ghost use Rattle.s38_rules.specs.step.Step.{step};
 ghost use Rattle.s38_run.specs.Pickers.{picks_of};
-ghost use Rattle.s38_run.specs.Progress.{AllGoing, AreAwake, IsGoing};
+ghost use Rattle.s38_run.specs.Progress.{AreAwake, IsGoing};
 ghost use Rattle.s38_run.specs.Whole.{WasRun};
+ghost use Rattle.s38_rules.specs.step.Histories.{Throughout};
 
 use crate::picker::Picker;
 
@@ -26,12 +27,12 @@ pub fn the_picks_decide<P: Picker>(picker: &P)
     let _ = picker;
 }
 
-/// Nobody is left alone with those that wait: where no process is ready, each has ended. It is so at the beginning, behind
+/// Nobody is left alone with those that wait: where no process is ready, each has ended. It is so at the beginning, after
 /// each step, and so in every state of a history.
 pub fn one_is_always_ready()
     ensures begins { (room : Option Room) (held : Held) (templates : List CheckedTemplate) (jobs : List Job) → IsGoing (stored_state_of room held templates jobs) }
     ensures steps { (s : State) (p : ℕ) (e : Event) → IsGoing s → IsGoing (step s p e).state }
-    ensures histories { (s : State) (history : List Entry) → IsGoing s → AllGoing s history }
+    ensures histories { (s : State) (history : List Entry) → IsGoing s → Throughout IsGoing s history }
 {}
 
 /// Who waits is silent: a process that was told to wait has no further entry before the next effect, so it waits at most

@@ -1,7 +1,7 @@
 ghost use Rattle.std.specs.Prelude.{◌≡◌};
 ghost use Rattle.s38_code.specs.declared.event.Event.{Event};
-ghost use Rattle.s38_process.specs.Process.{is_finish};
-ghost use Rattle.s38_run.specs.Running.{outcome_by, outcome_of};
+ghost use Rattle.s38_process.specs.AfterReply.{is_finish};
+ghost use Rattle.s38_run.specs.Turns.{outcome_by, outcome_of};
 
 use s38_code::{Event, Reply};
 

@@ -31,7 +31,7 @@ impl Model for NumberPicker {
     ghost view = { λ p. p.state };
 }
 
-/// The state behind another.
+/// The state after another.
 fn next_state(state: u64) -> u64
     ensures { result ≡ number_after state }
 {
@@ -62,7 +62,7 @@ impl Picker for NumberPicker {
     }
 }
 
-/// The numbers of a list, and 0 behind its end: contracts see those that are left.
+/// The numbers of a list, and 0 after its end: contracts see those that are left.
 #[derive(Drop)]
 pub struct ListPicker {
     numbers: Vec<u32>,

@@ -3,9 +3,9 @@ ghost use Rattle.std.specs.Option.{option_copied};
 ghost use Rattle.s38_code.specs.Asking.{last_reply, reply_by};
 ghost use Rattle.s38_code.specs.declared.event.Event.{Event};
 ghost use Rattle.s38_code.specs.declared.step.StepFault.{StepFault};
-ghost use Rattle.s38_rules.specs.Legal.{IsProcess, Run, after};
-ghost use Rattle.s38_rules.specs.State.{ready_list};
-ghost use Rattle.s38_rules.specs.Step.{step};
+ghost use Rattle.s38_rules.specs.step.Legal.{IsProcess, Run, after};
+ghost use Rattle.s38_rules.specs.state.State.{ready_list};
+ghost use Rattle.s38_rules.specs.step.Step.{step};
 
 use s38_base::NoMemory;
 use s38_code::{Asked, Event, Reply, StepFault};
@@ -30,7 +30,7 @@ pub trait RunMachine {
     /// It answers.
     ghost is_going: { Self → Type 0 };
 
-    /// Answers one event of a job's process by one step of the run. An error leaves what was entered as it was; behind it
+    /// Answers one event of a job's process by one step of the run. An error leaves what was entered as it was; after it
     /// the machine may answer no more.
     fn ask(&mut self, process: u32, event: Event) -> Result<Asked, StepFault>
         requires sound { is_sound self.old }

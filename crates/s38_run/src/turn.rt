@@ -3,10 +3,11 @@ ghost use Rattle.s38_code.specs.declared.event.Event.{Event};
 ghost use Rattle.s38_code.specs.declared.reply.Reply.{Reply};
 ghost use Rattle.s38_code.specs.declared.step.StepFault.{StepFault};
 ghost use Rattle.s38_code.specs.Asking.{reply_by};
-ghost use Rattle.s38_process.specs.Process.{absorbed, event_of, is_finish};
+ghost use Rattle.s38_process.specs.Process.{event_of};
+ghost use Rattle.s38_process.specs.AfterReply.{absorbed, is_finish};
 ghost use Rattle.s38_process.specs.declared.status.Status.{Status};
-ghost use Rattle.s38_rules.specs.Legal.{IsProcess};
-ghost use Rattle.s38_run.specs.Running.{BrokeOff, TookTurn, Turned, WasStopped, WentInPlace, doing, outcome_of};
+ghost use Rattle.s38_rules.specs.step.Legal.{IsProcess};
+ghost use Rattle.s38_run.specs.Turns.{BrokeOff, TookTurn, Turned, WasStopped, WentInPlace, doing, outcome_of};
 ghost use Rattle.s38_run.specs.declared.job_state.JobState.{JobState};
 
 use crate::job_state::{JobState, begin};
@@ -84,7 +85,7 @@ fn turn<M: RunMachine>(
     }
 }
 
-/// The process of a job that has begun takes a turn where it stands.
+/// The process of a job that has begun takes a turn in place.
 fn running_turn<M: RunMachine>(
     machine: &mut M,
     state: &mut JobState,

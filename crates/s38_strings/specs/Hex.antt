@@ -11,8 +11,8 @@ character_at from k =
     hex_character (if k % 2 == 0 then slice_index from (k / 2) / 16 else slice_index from (k / 2) % 16)
 
 -- the first n of them
-abbrev pub spelled : List ℕ → ℕ → List ℕ
-spelled from n = map (character_at from) (range_with_len 0 n)
+abbrev pub bytes_spelled : List ℕ → ℕ → List ℕ
+bytes_spelled from n = map (character_at from) (range_with_len 0 n)
 
 abbrev pub is_hex : ℕ → Bool
 is_hex c = (nat_le 0xF0 c && nat_le c 0xF9) || (nat_le 0xC1 c && nat_le c 0xC6)
@@ -24,9 +24,9 @@ abbrev pub hex_value : ℕ → ℕ
 hex_value c = if nat_le 0xF0 c then c - 0xF0 else c - 0xB7
 
 -- byte k of those that the characters spell
-abbrev pub byte_at : List ℕ → ℕ → ℕ
-byte_at from k = hex_value (slice_index from (2 * k)) * 16 + hex_value (slice_index from (2 * k + 1))
+abbrev pub spelled_byte : List ℕ → ℕ → ℕ
+spelled_byte from k = hex_value (slice_index from (2 * k)) * 16 + hex_value (slice_index from (2 * k + 1))
 
 -- the first n of them
 abbrev pub read : List ℕ → ℕ → List ℕ
-read from n = map (byte_at from) (range_with_len 0 n)
+read from n = map (spelled_byte from) (range_with_len 0 n)

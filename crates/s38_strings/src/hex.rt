@@ -1,6 +1,6 @@
 ghost use Rattle.std.specs.Prelude.{◌≡◌, ◌<◌, ◌*◌, Ok, Err, length, IsTrue, if◌then◌else◌};
 ghost use Rattle.std.specs.Result.{OkIff};
-ghost use Rattle.s38_strings.specs.Hex.{are_hex, character_at, hex_character, hex_value, is_hex, read, spelled};
+ghost use Rattle.s38_strings.specs.Hex.{are_hex, bytes_spelled, character_at, hex_character, hex_value, is_hex, read};
 
 use thiserror::Error;
 
@@ -27,7 +27,7 @@ fn character_at(from: &[u8], k: usize) -> u8
 /// Writes the bytes in hexadecimal, two characters for each.
 pub fn to_hex(into: &mut [u8], from: &[u8])
     requires { length into.old ≡ 2 * length from.now }
-    ensures { into.new ≡ spelled from.now (length into.old) }
+    ensures { into.new ≡ bytes_spelled from.now (length into.old) }
 {
     for k in 0..into.len() {
         into[k] = character_at(from, k);

@@ -4,14 +4,14 @@ use Rattle.std.proofs.lemmas.Bool.{cases_Bool}
 use Rattle.std.proofs.lemmas.Slice.Eq.{bytes_eq-Decides}
 use Rattle.s38_code.specs.Operations.{mnemonic}
 use Rattle.s38_words.specs.Operation.{op_of, operations}
-use Rattle.s38_words.specs.ProgramLine.{act_of}
+use Rattle.s38_words.specs.ProgramLine.{act_line_of}
 use Rattle.s38_words.specs.Text.{before, is_word}
 use Rattle.s38_template.specs.declared.said.Line.TheVariants.{Act}
-use Rattle.s38_template.specs.Lines.{end_line, is_instruction, line_of, said_by, stage_line}
+use Rattle.s38_template.specs.Lines.{end_line, is_instruction, line_of, line_said_by, stage_line}
 
 -- what begins with no mnemonic is no instruction
 none_begun : (word line : List ℕ) → op_of word ≡ None → before 32 line ≡ word → is_instruction line ≡ false
-unfolding is_instruction act_of
+unfolding is_instruction act_line_of
 none_begun word line none first = rw first (rw none refl)
 
 -- so an instruction begins with no word that is no mnemonic, and is no such word
@@ -56,7 +56,7 @@ unfolding operations mnemonic
 stage_none = refl
 
 pub act_said : (line : List ℕ) → is_instruction line ≡ true → line_of line ≡ Some Act
-unfolding line_of said_by
+unfolding line_of line_said_by
 act_said line h =
     rw (begins_else (codes "JOB") line job_none h)
     (rw (begins_else (codes "PROGRAM") line program_none h)

@@ -8,17 +8,17 @@ use Rattle.std.proofs.lemmas.List.Splits.{length-slice_split}
 use Rattle.std.proofs.lemmas.Option.{same_Some, cond_some}
 use Rattle.std.proofs.lemmas.Slice.Eq.{starts_is}
 use Rattle.std.specs.List.{list_all, slice_split, onto_first, flat_map, starts_with}
-use Rattle.s38_base.specs.NameText.{is_name, is_name_byte, are_name_bytes}
-use Rattle.s38_words.specs.DeclarationLine.{count_of}
+use Rattle.s38_base.specs.NameText.{are_name_bytes, is_name, is_name_byte}
+use Rattle.s38_words.specs.DeclarationLine.{count_spelled}
 use Rattle.s38_code.specs.declared.deck.Job.{Job}
 use Rattle.s38_template.specs.declared.said.JobSaid.{JobSaid}
 use Rattle.s38_template.specs.Cut.{cut}
 use Rattle.s38_template.specs.Grammar.{Says, budget_part, contexts_part, is_budget, is_job, job_text, with_blank}
-use Rattle.s38_template.specs.Lines.{budget_from, budget_in, contexts_in, head_in, is_blank, job_in, job_word, names_in, run_from, run_in, terms_from, terms_in, worded}
+use Rattle.s38_template.specs.Lines.{budget_from, budget_in, contexts_spelled, head_in, is_blank, job_in, job_word, names_in, run_from, run_in, terms_from, terms_in, worded}
 use Rattle.s38_template.specs.Reading.{job_of}
 use Rattle.s38_template.proofs.Numbers.{count_said, count_read, free_decimal}
 use Rattle.s38_template.proofs.Options.{map_some, then_some, all_weaker}
-use Rattle.s38_template.proofs.Texts.{is_free, cut_at, cut_none, cut_joins, split_at, split_none}
+use Rattle.s38_template.proofs.Texts.{cut_at, cut_joins, cut_none, is_free, split_at, split_none}
 use Rattle.s38_words.specs.Text.{rest_after}
 use Rattle.s38_words.specs.Name.{begins_with_letter, declared_name, is_declared_name, object_name}
 
@@ -80,7 +80,7 @@ split_joins (c ∷ cs) =
       | inr f ↦ rw f (byte_joins c cs (slice_split is_blank cs) (split_joins cs))
     ]
 
--- the parts of a text, as contexts behind their word
+-- the parts of a text, as contexts after their word
 parts_print : (rest : List ℕ) (parts : List (List ℕ)) → 0 < length parts → rest ≡ names_text parts → codes " CONTEXTS " ++ rest ≡ contexts_part parts
 parts_print rest [] n h = absurd (omega arith)
 parts_print rest (name ∷ names) n h = ap (λ l. codes " CONTEXTS " ++ l) h
@@ -89,8 +89,8 @@ record AreContexts (text : List ℕ) (contexts : List (List ℕ)) : Type 0 where
   pub said : 32 ∷ text ≡ contexts_part contexts
   pub names : list_all is_name contexts ≡ true
 
-contexts_said : (text : List ℕ) (contexts : List (List ℕ)) → contexts_in text ≡ Some contexts → AreContexts text contexts
-unfolding contexts_in
+contexts_said : (text : List ℕ) (contexts : List (List ℕ)) → contexts_spelled text ≡ Some contexts → AreContexts text contexts
+unfolding contexts_spelled
 contexts_said text contexts e =
     then_some names_in (rest_after (codes "CONTEXTS ") text) contexts e (λ rest a en.
     let g = cond_some (list_all is_name (slice_split is_blank rest)) (slice_split is_blank rest) contexts en in
@@ -100,8 +100,8 @@ contexts_said text contexts e =
       names = subst R g.1 g.0;
     })
 
-contexts_read : (first : List ℕ) (contexts : List (List ℕ)) → list_all is_name (first ∷ contexts) ≡ true → contexts_in (codes "CONTEXTS " ++ names_text (first ∷ contexts)) ≡ Some (first ∷ contexts)
-unfolding contexts_in
+contexts_read : (first : List ℕ) (contexts : List (List ℕ)) → list_all is_name (first ∷ contexts) ≡ true → contexts_spelled (codes "CONTEXTS " ++ names_text (first ∷ contexts)) ≡ Some (first ∷ contexts)
+unfolding contexts_spelled
 contexts_read first contexts h = names_read first contexts h
 
 -- ---- the budget and the contexts
@@ -118,7 +118,7 @@ pub record AreTerms (text : List ℕ) (budget : ℕ) (contexts : List (List ℕ)
 
 budget_said_from : (text : List ℕ) (o : Option (List ℕ × List ℕ)) (budget : ℕ) (contexts : List (List ℕ)) → cut 32 text ≡ o → budget_from text o ≡ Some (budget, contexts) → AreTerms (codes " BUDGET " ++ text) budget contexts
 budget_said_from text None budget contexts c e =
-    map_some (λ (n : ℕ). (n, [])) (count_of text) (budget, contexts) e (λ n eq back.
+    map_some (λ (n : ℕ). (n, [])) (count_spelled text) (budget, contexts) e (λ n eq back.
     let P : ℕ × List (List ℕ) → Type 0 = λ t. AreTerms (codes " BUDGET " ++ text) t.0 t.1 in
     let made : AreTerms (codes " BUDGET " ++ text) n [] = record {
       part = budget_part n;
@@ -128,7 +128,7 @@ budget_said_from text None budget contexts c e =
     } in
     subst P back made)
 budget_said_from text (Some p) budget contexts c e =
-    then_some _ (count_of p.0) (budget, contexts) e (λ n eq e1. then_some _ (contexts_in p.1) (budget, contexts) e1 (λ list ec back.
+    then_some _ (count_spelled p.0) (budget, contexts) e (λ n eq e1. then_some _ (contexts_spelled p.1) (budget, contexts) e1 (λ list ec back.
     let P : ℕ × List (List ℕ) → Type 0 = λ t. AreTerms (codes " BUDGET " ++ text) t.0 t.1 in
     let k = contexts_said p.1 list ec in
     let made : AreTerms (codes " BUDGET " ++ text) n list = record {
@@ -145,7 +145,7 @@ budget_said text budget contexts e = budget_said_from text (cut 32 text) budget 
 
 terms_said_from : (text : List ℕ) (o : Option (List ℕ)) (budget : ℕ) (contexts : List (List ℕ)) → rest_after (codes "BUDGET ") text ≡ o → terms_from text o ≡ Some (budget, contexts) → AreTerms (32 ∷ text) budget contexts
 terms_said_from text None budget contexts a e =
-    map_some (λ (list : List (List ℕ)). (1000000, list)) (contexts_in text) (budget, contexts) e (λ list eq back.
+    map_some (λ (list : List (List ℕ)). (1000000, list)) (contexts_spelled text) (budget, contexts) e (λ list eq back.
     let P : ℕ × List (List ℕ) → Type 0 = λ t. AreTerms (32 ∷ text) t.0 t.1 in
     let k = contexts_said text list eq in
     let made : AreTerms (32 ∷ text) 1000000 list = record { part = []; is_part = λ _. record { is = inr (refl, refl) }; said = λ h. k.said; names = k.names } in

@@ -1,5 +1,7 @@
 pub mod Acts
 pub mod Complete
+pub mod TemplatesRead
+pub mod JobsRead
 pub mod Declarations
 pub mod Ends
 pub mod LineForms
@@ -10,6 +12,9 @@ pub mod Options
 pub mod Printed
 pub mod Sets
 pub mod Sound
-pub mod Standing
+pub mod TemplatesTold
+pub mod JobsTold
+pub mod LinesTold
+pub mod TemplatePlaces
 pub mod Texts
 pub mod Words

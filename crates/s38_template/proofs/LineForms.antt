@@ -5,15 +5,15 @@ use Rattle.std.proofs.lemmas.Option.{same_Some, cond_some}
 use Rattle.std.proofs.lemmas.Slice.Eq.{bytes_eq-Decides}
 use Rattle.std.specs.Option.{option_map}
 use Rattle.s38_words.specs.DeclarationLine.{declaration_of}
-use Rattle.s38_words.specs.Text.{before, behind, is_word, rest_after}
+use Rattle.s38_words.specs.Text.{after_byte, before, is_word, rest_after}
 use Rattle.s38_template.specs.declared.said.JobSaid.{JobSaid}
 use Rattle.s38_template.specs.declared.said.Line.{Line}
 use Rattle.s38_template.specs.declared.said.Line.TheVariants.{Program, Act, End, Stage, Job}
-use Rattle.s38_template.specs.Lines.{begun_by, declare, end_line, is_instruction, job, job_in, job_word, label, line_of, rest_said, said_by, stage_line}
+use Rattle.s38_template.specs.Lines.{declare, end_line, is_instruction, job, job_in, job_word, label, line_of, line_of_head, line_said_by, rest_said, stage_line}
 use Rattle.s38_template.proofs.JobText.{after_joins}
 use Rattle.s38_template.proofs.Options.{map_some, then_some}
 use Rattle.s38_template.proofs.Texts.{before_cut}
-use Rattle.s38_words.specs.ProgramLine.{adoption, head_behind, head_from, head_of, label_of, program_word}
+use Rattle.s38_words.specs.ProgramLine.{adoption, head_after_word, head_from, head_of, label_spelled, program_word}
 use Rattle.s38_words.specs.declared.program_lines.Head.{Head}
 use Rattle.s38_words.specs.Name.{declared_name, is_declared_name}
 
@@ -45,16 +45,16 @@ rest_told text line e =
       ]
     ]
 
-by_told : (word text : List ℕ) (line : Line) → said_by word text ≡ Some line → IsSaid text line
-unfolding said_by
+by_told : (word text : List ℕ) (line : Line) → line_said_by word text ≡ Some line → IsSaid text line
+unfolding line_said_by
 by_told word text line e =
     let P : Line → Type 0 = IsSaid text in
     elim (cases_Bool (is_word (codes "PROGRAM") word)) [
-      | inl y ↦ map_some begun_by (head_of text) line (rw y at e) (λ head h back. subst P back (ap (option_map named) h))
+      | inl y ↦ map_some line_of_head (head_of text) line (rw y at e) (λ head h back. subst P back (ap (option_map named) h))
       | inr n ↦ elim (cases_Bool (is_word (codes "DCL") word)) [
         | inl y ↦ map_some declare (declaration_of text) line (rw n at (rw y at e)) (λ d h back. subst P back tt)
         | inr m ↦ elim (cases_Bool (is_word (codes "LABEL") word)) [
-          | inl y ↦ map_some label (label_of text) line (rw n at (rw m at (rw y at e))) (λ name h back. subst P back tt)
+          | inl y ↦ map_some label (label_spelled text) line (rw n at (rw m at (rw y at e))) (λ name h back. subst P back tt)
           | inr l ↦ rest_told text line (rw n at (rw m at (rw l at e)))
         ]
       ]
@@ -80,20 +80,20 @@ pub head_name : (text name : List ℕ) → option_map named (head_of text) ≡ S
 unfolding head_of
 head_name text name e =
     map_some named (head_of text) name e (λ head h is.
-    then_some head_behind (rest_after program_word text) head h (λ rest a g.
+    then_some head_after_word (rest_after program_word text) head h (λ rest a g.
     let joined : text ≡ program_word ++ rest = after_joins program_word text rest a in
-    let own = cond_some (is_declared_name (before 32 rest)) (before 32 rest) head.name (head_from-name (declared_name (before 32 rest)) (adoption (behind 32 rest)) head g) in
+    let own = cond_some (is_declared_name (before 32 rest)) (before 32 rest) head.name (head_from-name (declared_name (before 32 rest)) (adoption (after_byte 32 rest)) head g) in
     let P : List ℕ → Type 0 = λ n. (is_declared_name n ≡ true) × (before 32 (drop (length program_word) text) ≡ n) in
     subst P (own.1 ∙ is) (own.0, ap (λ t. before 32 (drop (length program_word) t)) joined)))
 
 -- ---- lines that are read
 
 pub end_read : line_of end_line ≡ Some End
-unfolding line_of said_by
+unfolding line_of line_said_by
 end_read = refl
 
 pub stage_read : line_of stage_line ≡ Some Stage
-unfolding line_of said_by
+unfolding line_of line_said_by
 stage_read = refl
 
 job_word_is : (rest : List ℕ) → before 32 (job_word ++ rest) ≡ codes "JOB"

@@ -13,17 +13,9 @@ pub map_none : {A B : Type 0} (f : A → B) (o : Option A) → option_map f o �
 map_none f None e = refl
 map_none f (Some x) e = absurd cc
 
-pub map_map : {A B C : Type 0} (g : B → C) (f : A → B) (o : Option A) → option_map g (option_map f o) ≡ option_map (λ x. g (f x)) o
-map_map g f None = refl
-map_map g f (Some x) = refl
-
 pub then_some : {A B P : Type 0} (f : A → Option B) (o : Option A) (y : B) → option_and_then f o ≡ Some y → ((x : A) → o ≡ Some x → f x ≡ Some y → P) → P
 then_some f None y e k = absurd cc
 then_some f (Some x) y e k = k x refl e
-
-pub then_none : {A B : Type 0} (o : Option A) → option_and_then {T = A} {U = B} (λ _. None) o ≡ None
-then_none None = refl
-then_none (Some x) = refl
 
 pub all_weaker : {X : Type 0} (p q : X → Bool) → ((x : X) → p x ≡ true → q x ≡ true) → (xs : List X) → list_all p xs ≡ true → list_all q xs ≡ true
 all_weaker p q w [] h = refl

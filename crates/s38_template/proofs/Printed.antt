@@ -6,7 +6,7 @@ use Rattle.std.proofs.lemmas.List.Folds.{list_all-append}
 use Rattle.std.specs.List.{filter, flat_map, list_all}
 use Rattle.s38_code.specs.declared.deck.Deck.{Deck}
 use Rattle.s38_code.specs.declared.deck.Job.{Job}
-use Rattle.s38_template.specs.Grammar.{SayEach, Says, Spells, budget_part, contexts_part, deck_lines, is_kept, is_plain, is_plain_byte, job_text, stage_lines, with_feed}
+use Rattle.s38_template.specs.Grammar.{SayEach, Says, Spells, budget_part, contexts_part, deck_lines, is_kept, is_plain_byte, job_text, line_is_plain, stage_lines, with_feed}
 use Rattle.s38_template.specs.Lines.{job_word, stage_line}
 use Rattle.s38_template.specs.Printing.{job_line, printed, printed_budget, printed_lines, printed_who}
 use Rattle.s38_template.proofs.Options.{all_weaker}
@@ -41,14 +41,14 @@ kept_shorter (line ∷ lines) =
 
 -- a line that is plain and says something
 abbrev is_good : List ℕ → Bool
-is_good line = is_plain line && is_kept line
+is_good line = line_is_plain line && is_kept line
 
-kept_good : (lines : List (List ℕ)) → list_all is_plain lines ≡ true → list_all is_good (filter is_kept lines) ≡ true
+kept_good : (lines : List (List ℕ)) → list_all line_is_plain lines ≡ true → list_all is_good (filter is_kept lines) ≡ true
 kept_good [] h = refl
 kept_good (line ∷ lines) h =
-    let both = and_parts (is_plain line) (list_all is_plain lines) h in
+    let both = and_parts (line_is_plain line) (list_all line_is_plain lines) h in
     elim (cases_Bool (is_kept line)) [
-      | inl k ↦ rw k (and_from (is_good line) (list_all is_good (filter is_kept lines)) (and_from (is_plain line) (is_kept line) both.0 k) (kept_good lines both.1))
+      | inl k ↦ rw k (and_from (is_good line) (list_all is_good (filter is_kept lines)) (and_from (line_is_plain line) (is_kept line) both.0 k) (kept_good lines both.1))
       | inr k ↦ rw k (kept_good lines both.1)
     ]
 
@@ -96,11 +96,11 @@ without line part job e b =
     record {
       shorter = shorter;
       good = λ g.
-          let both = and_parts (is_plain line) (is_kept line) g in
+          let both = and_parts (line_is_plain line) (is_kept line) g in
           let plain = and_parts (nat_le (length line) 255) (list_all is_plain_byte line) both.0 in
           let few : nat_le (length (job_line job)) 255 ≡ true = le-leb (length (job_line job)) 255 (omega (arith, leb-true (length line) 255 plain.0)) in
           let bytes : list_all is_plain_byte (job_line job) ≡ true = ap (list_all is_plain_byte) made ∙ part_plain part job (ap (list_all is_plain_byte) (sym e) ∙ plain.1) in
-          and_from (is_plain (job_line job)) (is_kept (job_line job)) (and_from (nat_le (length (job_line job)) 255) (list_all is_plain_byte (job_line job)) few bytes) refl;
+          and_from (line_is_plain (job_line job)) (is_kept (job_line job)) (and_from (nat_le (length (job_line job)) 255) (list_all is_plain_byte (job_line job)) few bytes) refl;
     }
 
 the_same : (line : List ℕ) (job : Job) → line ≡ job_line job → IsShort line job
@@ -178,8 +178,8 @@ printed_spells text deck s =
     let good : list_all is_good (flat ++ other) ≡ true = ap (list_all is_good) (sym s.said) ∙ kept_good s.lines s.plain in
     let parts = both_all is_good flat other good in
     let all : list_all is_good lines ≡ true = all_both is_good flat one parts.0 (jobs_good deck.jobs s.job_lines 0 s.says parts.1) in
-    let plain : list_all is_plain lines ≡ true = all_weaker is_good is_plain (λ l h. (and_parts (is_plain l) (is_kept l) h).0) lines all in
-    let kept : list_all is_kept lines ≡ true = all_weaker is_good is_kept (λ l h. (and_parts (is_plain l) (is_kept l) h).1) lines all in
+    let plain : list_all line_is_plain lines ≡ true = all_weaker is_good line_is_plain (λ l h. (and_parts (line_is_plain l) (is_kept l) h).0) lines all in
+    let kept : list_all is_kept lines ≡ true = all_weaker is_good is_kept (λ l h. (and_parts (line_is_plain l) (is_kept l) h).1) lines all in
     let shorter : length (printed_lines one) ≤ length (printed_lines other) = jobs_shorter deck.jobs s.job_lines 0 s.says in
     let small : length (printed deck) ≤ 4194304 =
     omega (arith, s.small, ap length s.ended, kept_shorter s.lines, ap (λ l. length (printed_lines l)) s.said, lines_more flat one, lines_more flat other)

@@ -6,9 +6,9 @@ use Rattle.std.proofs.lemmas.Option.{same_Some}
 use Rattle.std.proofs.Math.Bool.{and-true}
 use Rattle.std.specs.List.{position_or_len, position, list_all, flat_map, slice_split}
 use Rattle.std.specs.Option.{option_map, option_map_or}
-use Rattle.s38_words.specs.Text.{before, behind, place_of}
+use Rattle.s38_words.specs.Text.{after_byte, before, place_of}
 use Rattle.s38_template.specs.Cut.{cut, onto_front}
-use Rattle.s38_template.specs.Grammar.{with_feed, is_odd, is_plain, is_plain_byte}
+use Rattle.s38_template.specs.Grammar.{is_odd, is_plain_byte, line_is_plain, with_feed}
 use Rattle.s38_template.proofs.Options.{map_some, map_none, all_weaker}
 
 -- ---- cut
@@ -47,7 +47,7 @@ cut_position sep (c ∷ cs) =
 abbrev odd_at : List ℕ → ℕ
 odd_at text = position_or_len is_odd text
 
--- the first line feed stands there, behind plain bytes
+-- the first line feed is there, after plain bytes
 abbrev pub LineTo : List ℕ → ℕ → Type 0
 LineTo text at = (cut 10 text ≡ Some (around text at)) × (list_all is_plain_byte (take at text) ≡ true)
 
@@ -95,7 +95,7 @@ line_to text at e is =
     let odd = odd_is text at e in
     subst (LineTo text) odd.0 (line_at text odd.1 (ap (slice_index text) odd.0 ∙ is))
 
-pub plain_to : (text : List ℕ) (at : ℕ) → at < length text → list_all is_plain_byte (take at text) ≡ true → nat_le at 255 ≡ is_plain (take at text)
+pub plain_to : (text : List ℕ) (at : ℕ) → at < length text → list_all is_plain_byte (take at text) ≡ true → nat_le at 255 ≡ line_is_plain (take at text)
 plain_to text at within all = rw (length-take-le at text (omega (arith, within)), all) (sym (and-true (nat_le at 255)))
 
 -- what a cut gives is the text
@@ -127,21 +127,14 @@ cut_none sep (c ∷ a) e =
 pub rest_falls : (sep : ℕ) (text : List ℕ) (p : List ℕ × List ℕ) → cut sep text ≡ Some p → length p.1 < length text
 rest_falls sep text p e = omega (arith, ap length (cut_joins sep text p e), length-append p.0 (sep ∷ p.1))
 
--- ---- the words before and behind a separator
+-- ---- the words before and after a separator
 
 before_from : (text : List ℕ) (o : Option ℕ) (p : List ℕ × List ℕ) → option_map (around text) o ≡ Some p → option_map_or (λ k. take k text) o text ≡ p.0
 before_from text None p e = absurd cc
 before_from text (Some at) p e = ap (λ (q : List ℕ × List ℕ). q.0) (same_Some (around text at) p e)
 
-behind_from : (text : List ℕ) (o : Option ℕ) (p : List ℕ × List ℕ) → option_map (around text) o ≡ Some p → option_map (λ k. drop (k + 1) text) o ≡ Some p.1
-behind_from text None p e = absurd cc
-behind_from text (Some at) p e = ap (λ (q : List ℕ × List ℕ). Some q.1) (same_Some (around text at) p e)
-
 pub before_cut : (sep : ℕ) (text : List ℕ) (p : List ℕ × List ℕ) → cut sep text ≡ Some p → before sep text ≡ p.0
 before_cut sep text p e = before_from text (place_of sep text) p (sym (cut_position sep text) ∙ e)
-
-pub behind_cut : (sep : ℕ) (text : List ℕ) (p : List ℕ × List ℕ) → cut sep text ≡ Some p → behind sep text ≡ Some p.1
-behind_cut sep text p e = behind_from text (place_of sep text) p (sym (cut_position sep text) ∙ e)
 
 -- ---- parts
 
@@ -177,8 +170,8 @@ free_byte c h =
     let low = leb-true 32 c (and_parts (nat_le 32 c) (nat_le c 126) h).0 in
     not_from_false (c == 10) (ne_eqb c 10 (λ e. omega arith))
 
-free_line : (line : List ℕ) → is_plain line ≡ true → is_free 10 line ≡ true
+free_line : (line : List ℕ) → line_is_plain line ≡ true → is_free 10 line ≡ true
 free_line line h = all_weaker is_plain_byte (λ c. not (c == 10)) free_byte line (and_parts (nat_le (length line) 255) (list_all is_plain_byte line) h).1
 
-pub free_from_plain : (lines : List (List ℕ)) → list_all is_plain lines ≡ true → list_all (is_free 10) lines ≡ true
-free_from_plain lines e = all_weaker is_plain (is_free 10) free_line lines e
+pub free_from_plain : (lines : List (List ℕ)) → list_all line_is_plain lines ≡ true → list_all (is_free 10) lines ≡ true
+free_from_plain lines e = all_weaker line_is_plain (is_free 10) free_line lines e

@@ -19,10 +19,6 @@ use Rattle.s38_words.specs.Name.{object_name}
 abbrev pub more_names : List (List ℕ) → Option (List (List ℕ)) → Option (List (List ℕ))
 more_names names read = option_map (λ more. names ++ more) read
 
-pub names_begin : (o : Option (List (List ℕ))) → more_names [] o ≡ o
-names_begin None = refl
-names_begin (Some names) = refl
-
 pub names_end : (names : List (List ℕ)) (text : List ℕ) → cut 32 text ≡ None → more_names names (names_in text) ≡ option_map (λ name. names ++ name ∷ []) (object_name text)
 names_end names text e =
     rw (split_none 32 text e) (elim (cases_Bool (is_name text)) [ inl t ↦ rw t refl | inr f ↦ rw f refl ])

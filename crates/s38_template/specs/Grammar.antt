@@ -27,8 +27,8 @@ abbrev pub is_odd : ℕ → Bool
 is_odd c = not (is_plain_byte c)
 
 -- at most 255 bytes, all of them plain
-abbrev pub is_plain : List ℕ → Bool
-is_plain line = nat_le (length line) 255 && list_all is_plain_byte line
+abbrev pub line_is_plain : List ℕ → Bool
+line_is_plain line = nat_le (length line) 255 && list_all is_plain_byte line
 
 -- a line that says something: it is not empty and no comment
 abbrev pub is_kept : List ℕ → Bool
@@ -40,7 +40,7 @@ is_kept (c ∷ cs) = not (c == 42)
 abbrev pub has : List (List ℕ) → List ℕ → Bool
 has names name = list_any (λ n. bytes_eq n name) names
 
--- none of the names stands before itself, nor among those that were seen
+-- none of the names is among those before it, nor among those that were seen
 abbrev pub are_new : List (List ℕ) → List (List ℕ) → Bool
 are_new seen [] = true
 are_new seen (name ∷ names) = not (has seen name) && are_new (seen ++ name ∷ []) names
@@ -55,12 +55,12 @@ declares _ = false
 abbrev pub is_declaration : List ℕ → Bool
 is_declaration line = declares (line_of line)
 
-abbrev pub acts : Option Line → Bool
-acts (Some Act) = true
-acts _ = false
+abbrev pub is_act_line : Option Line → Bool
+is_act_line (Some Act) = true
+is_act_line _ = false
 
 abbrev pub is_action : List ℕ → Bool
-is_action line = acts (line_of line)
+is_action line = is_act_line (line_of line)
 
 -- the name, where a label is said
 abbrev pub labels_said : Option Line → List (List ℕ)
@@ -113,7 +113,7 @@ contexts_part (name ∷ names) = codes " CONTEXTS" ++ flat_map with_blank (name 
 abbrev pub budget_part : ℕ → List ℕ
 budget_part budget = codes " BUDGET " ++ decimal budget
 
--- the line of a job in which the budget stands so
+-- the line of a job in which the budget is written so
 abbrev pub job_text : List ℕ → Job → List ℕ
 job_text budget job = job_word ++ (job.name ++ (codes " USER " ++ (job.user ++ (codes " RUN " ++ (job.template ++ (budget ++ contexts_part job.contexts))))))
 
@@ -149,7 +149,7 @@ are_numbered before (job ∷ jobs) = ((nat_lt 0 before && (job.stage == before))
 abbrev pub name_of_job : Job → List ℕ
 name_of_job job = job.name
 
--- jobs that stand behind a stage of this number and jobs of these names, in a deck with templates of these names
+-- jobs that come after a stage of this number and jobs of these names, in a deck with templates of these names
 pub record FitJobs (names seen : List (List ℕ)) (before : ℕ) (jobs : List Job) : Type 0 where
   pub each : IsTrue (list_all is_job jobs)
   pub numbered : IsTrue (are_numbered before jobs)
@@ -168,7 +168,7 @@ pub record Spells (text : List ℕ) (deck : Deck) : Type 0 where
   pub job_lines : List (List ℕ)
   pub ended : text ≡ flat_map with_feed lines
   pub small : length text ≤ 4194304
-  pub plain : IsTrue (list_all is_plain lines)
+  pub plain : IsTrue (list_all line_is_plain lines)
   pub said : filter is_kept lines ≡ deck_lines deck job_lines
   pub says : SayEach job_lines deck.jobs
   pub templates : AllByRecursion IsTemplate deck.templates

@@ -1,4 +1,4 @@
--- Where the templates of a deck stand.
+-- The places of the templates of a deck.
 use Rattle.std.specs.Prelude.{◌≡◌, ℕ, ◌+◌, Bool, ◌&&◌, List, [], ◌∷◌, Option, Some, None, if◌then◌else◌}
 use Rattle.std.specs.List.{slice_get}
 use Rattle.std.specs.Option.{option_and_then}
@@ -17,8 +17,8 @@ abbrev pub place_from : ℕ → List (List ℕ) → List ℕ → Option ℕ
 place_from at [] name = None
 place_from at (first ∷ names) name = if is_called first name then Some at else place_from (at + 1) names name
 
-abbrev pub place_of : List (List ℕ) → List ℕ → Option ℕ
-place_of names name = place_from 0 names name
+abbrev pub template_place : List (List ℕ) → List ℕ → Option ℕ
+template_place names name = place_from 0 names name
 
 -- a place that was known, or that of one more name
 abbrev pub held : Option ℕ → ℕ → List ℕ → List ℕ → Option ℕ
@@ -32,7 +32,7 @@ placed None at text name = if is_called text name then Some at else None
 
 -- the lines of the template that a job names
 abbrev pub template_of : Deck → Job → Option (List (List ℕ))
-template_of deck job = option_and_then (slice_get deck.templates) (place_of (template_names deck.templates) job.template)
+template_of deck job = option_and_then (slice_get deck.templates) (template_place (template_names deck.templates) job.template)
 
 -- it is there, and has that name
 pub record HasTemplate (deck : Deck) (job : Job) : Type 0 where

@@ -19,7 +19,7 @@ printed_who job = job_word ++ (job.name ++ (codes " USER " ++ (job.user ++ (code
 abbrev pub job_line : Job → List ℕ
 job_line job = job_text (printed_budget job.budget) job
 
--- jobs behind a stage of this number
+-- jobs after a stage of this number
 abbrev pub printed_jobs : ℕ → List Job → List ℕ
 printed_jobs before jobs = printed_lines (stage_lines before (map job_line jobs) jobs)
 

@@ -1,6 +1,6 @@
 ghost use Rattle.std.specs.Prelude.{◌≡◌};
 ghost use Rattle.s38_template.specs.Grammar.{is_budget};
-ghost use Rattle.s38_template.specs.Reading.{first_code, has_room, has_template, is_in_range, is_new, is_small, may_stand, tests};
+ghost use Rattle.s38_template.specs.Reading.{first_code, has_room, has_template, is_small, line_is_in_range, may_come, name_is_new, tests};
 ghost use Rattle.s38_template.specs.Views.{state_of};
 ghost use Rattle.s38_template.specs.declared.said.Line.{Line};
 
@@ -26,9 +26,9 @@ const MOST_INSTRUCTIONS: u32 = 16_384;
 /// The largest budget.
 const MOST_BUDGET: u64 = 10_000_000;
 
-/// Whether such a line may stand there.
-fn may_stand(place: Place, line: &Line) -> bool
-    ensures { result ≡ may_stand place line.now }
+/// Whether such a line may come there.
+fn may_come(place: Place, line: &Line) -> bool
+    ensures { result ≡ may_come place line.now }
 {
     match (place, line) {
         (Place::Between, Line::Program(_) | Line::Stage) => true,
@@ -42,7 +42,7 @@ fn may_stand(place: Place, line: &Line) -> bool
 
 /// Whether the name of a template, a label or a job was not there before.
 fn is_new(reader: &Reader, line: &Line) -> bool
-    ensures { result ≡ is_new (state_of reader.now) line.now }
+    ensures { result ≡ name_is_new (state_of reader.now) line.now }
 {
     match line {
         Line::Program(name) => !reader.names.has(name),
@@ -60,7 +60,7 @@ fn is_budget(budget: u64) -> bool
 
 /// Whether the numbers of a line are in their ranges.
 fn is_in_range(line: &Line) -> bool
-    ensures { result ≡ is_in_range line.now }
+    ensures { result ≡ line_is_in_range line.now }
 {
     match line {
         Line::Declare(in_range) => *in_range,
@@ -103,7 +103,7 @@ fn has_template(reader: &Reader, line: &Line) -> bool
 pub fn line_code(reader: &Reader, size: usize, line: &Line) -> Option<u8>
     ensures { result ≡ first_code (tests (state_of reader.now) size line.now) }
 {
-    if !may_stand(reader.place, line) {
+    if !may_come(reader.place, line) {
         Some(2)
     } else if !is_new(reader, line) {
         Some(3)
@@ -124,7 +124,7 @@ pub fn line_code(reader: &Reader, size: usize, line: &Line) -> Option<u8>
 pub fn act_code(reader: &Reader, size: usize) -> Option<u8>
     ensures { result ≡ first_code (tests (state_of reader.now) size Line.Act) }
 {
-    if !may_stand(reader.place, &Line::Act) {
+    if !may_come(reader.place, &Line::Act) {
         Some(2)
     } else if !is_small(size) {
         Some(6)
@@ -139,7 +139,7 @@ pub fn act_code(reader: &Reader, size: usize) -> Option<u8>
 pub fn declare_code(reader: &Reader, size: usize, in_range: bool) -> Option<u8>
     ensures { result ≡ first_code (tests (state_of reader.now) size (Line.Declare in_range)) }
 {
-    if !may_stand(reader.place, &Line::Declare(in_range)) {
+    if !may_come(reader.place, &Line::Declare(in_range)) {
         Some(2)
     } else if !in_range {
         Some(4)

@@ -4,7 +4,7 @@ ghost use Rattle.s38_template.specs.Cut.{cut};
 
 use s38_words::place_of;
 
-/// The text before the first separator, and the text behind it; None where there is no separator.
+/// The text before the first separator, and the text after it; None where there is no separator.
 pub fn cut(text: &[u8], separator: u8) -> Option<(&[u8], &[u8])>
     ensures { option_map (λ parts. (parts.0.now, parts.1.now)) result ≡ cut separator text.now }
 {

@@ -1,9 +1,9 @@
 ghost use Rattle.std.specs.Prelude.{◌≡◌, IfOk, IsTrue, Some, is_some};
 ghost use Rattle.std.specs.Option.{option_map};
-ghost use Rattle.s38_words.specs.DeclarationLine.{behind_dcl, declaration_of};
+ghost use Rattle.s38_words.specs.DeclarationLine.{after_dcl, declaration_of};
 ghost use Rattle.s38_words.specs.Views.{act_in};
 ghost use Rattle.s38_words.specs.ProgramLine.{head_of};
-ghost use Rattle.s38_template.specs.Lines.{begun_by, are_formed, are_operands, declare, end_line, is_act, is_instruction, line_of, rest_said, said_by, stage_line};
+ghost use Rattle.s38_template.specs.Lines.{are_formed, are_operands, declare, end_line, is_act, is_instruction, line_of, line_of_head, line_said_by, rest_said, stage_line};
 ghost use Rattle.s38_template.specs.declared.said.Line.{Line};
 
 use crate::job_line::job_in;
@@ -33,7 +33,7 @@ fn are_formed(text: Option<&[u8]>) -> bool
     }
 }
 
-/// Whether `(R)` stands only where it may, and each word has the form of some operand.
+/// Whether `(R)` is only where it may be, and each word has the form of some operand.
 fn is_act(act: InstructionLine<'_>) -> bool
     ensures { result ≡ is_act (act_in act.entry) }
 {
@@ -87,7 +87,7 @@ fn declared(line: &[u8]) -> Option<Line>
 #[inline(always)]
 #[tactic(auto, using(crate::proofs::Declarations::declaration_said))]
 pub fn declared_range(line: &[u8]) -> Option<bool>
-    requires { IsTrue (is_some (behind_dcl line.now)) }
+    requires { IsTrue (is_some (after_dcl line.now)) }
     ensures { option_map (λ in_range. Line.Declare in_range) result ≡ line_of line.now }
 {
     let said = declaration(line)?;
@@ -97,14 +97,14 @@ pub fn declared_range(line: &[u8]) -> Option<bool>
 /// The head of a template.
 #[inline(never)]
 fn headed(line: &[u8]) -> Option<Line>
-    ensures { result ≡ option_map begun_by (head_of line.now) }
+    ensures { result ≡ option_map line_of_head (head_of line.now) }
 {
     Some(Line::Program(program_head(line)?.name))
 }
 
-#[tactic(auto, unfolding(crate::specs::Lines::said_by))]
+#[tactic(auto, unfolding(crate::specs::Lines::line_said_by))]
 fn said_by(word: &[u8], line: &[u8]) -> Option<Line>
-    ensures { result ≡ said_by word.now line.now }
+    ensures { result ≡ line_said_by word.now line.now }
 {
     if is_word(b"PROGRAM", word) {
         return headed(line);

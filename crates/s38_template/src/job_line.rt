@@ -1,7 +1,7 @@
 ghost use Rattle.std.specs.Prelude.{◌≡◌, ◌++◌, ◌∷◌, [], codes, IfOk};
 ghost use Rattle.std.specs.Option.{option_map};
-ghost use Rattle.s38_words.specs.DeclarationLine.{count_of};
-ghost use Rattle.s38_template.specs.Lines.{budget_in, contexts_in, head_in, job_in, job_word, names_in, run_in, terms_in, worded};
+ghost use Rattle.s38_words.specs.DeclarationLine.{count_spelled};
+ghost use Rattle.s38_template.specs.Lines.{budget_in, contexts_spelled, head_in, job_in, job_word, names_in, run_in, terms_in, worded};
 ghost use Rattle.s38_words.specs.Name.{declared_name, object_name};
 
 use crate::cut::cut;
@@ -16,12 +16,12 @@ const BUDGET: u64 = 1_000_000;
 
 /// The number that a text is; one that is too large as the largest.
 fn count(text: &[u8]) -> Option<u64>
-    ensures { result ≡ count_of text.now }
+    ensures { result ≡ count_spelled text.now }
 {
     natural(text)
 }
 
-/// What stands behind a word and before a blank, and what stands behind the blank.
+/// The text after a word and before a blank, and the text after the blank.
 #[tactic(auto, unfolding(crate::specs::Lines::worded))]
 fn worded<'a>(text: &'a [u8], word: &[u8]) -> Option<(&'a [u8], &'a [u8])>
     ensures { option_map (λ parts. (parts.0.now, parts.1.now)) result ≡ worded word.now text.now }
@@ -63,9 +63,9 @@ fn names_in(alloc: Global, text: &[u8]) -> Result<Option<Names>, NoMemory>
     with_name(names, rest)
 }
 
-#[tactic(auto, unfolding(crate::specs::Lines::contexts_in))]
+#[tactic(auto, unfolding(crate::specs::Lines::contexts_spelled))]
 fn contexts_in(alloc: Global, text: &[u8]) -> Result<Option<Names>, NoMemory>
-    ensures { IfOk result (λ names. names ≡ contexts_in text.now) }
+    ensures { IfOk result (λ names. names ≡ contexts_spelled text.now) }
 {
     match rest_after(b"CONTEXTS ", text) {
         Some(names) => names_in(alloc, names),
@@ -73,7 +73,7 @@ fn contexts_in(alloc: Global, text: &[u8]) -> Result<Option<Names>, NoMemory>
     }
 }
 
-/// A budget, and the contexts behind it.
+/// A budget, and the contexts after it.
 #[tactic(auto, unfolding(crate::specs::Lines::budget_in))]
 fn budget_in(alloc: Global, text: &[u8]) -> Result<Option<(u64, Names)>, NoMemory>
     ensures { IfOk result (λ terms. terms ≡ budget_in text.now) }
@@ -137,7 +137,7 @@ fn run_in(alloc: Global, text: &[u8]) -> Result<Option<(Name, u64, Names)>, NoMe
     }
 }
 
-/// The texts behind JOB and behind USER, and what stands behind RUN.
+/// The texts after JOB and after USER, and the text after RUN.
 #[tactic(auto, unfolding(crate::specs::Lines::head_in))]
 fn head_in(line: &[u8]) -> Option<(&[u8], &[u8], &[u8])>
     ensures { option_map (λ head. (head.0.now, head.1.now, head.2.now)) result ≡ head_in line.now }

@@ -2,7 +2,7 @@ ghost use Rattle.std.specs.Prelude.{◌≡◌, ◌<◌, IfSome, length};
 ghost use Rattle.std.specs.List.{list_all, position};
 ghost use Rattle.std.specs.Option.{option_map};
 ghost use Rattle.s38_template.specs.Cut.{cut};
-ghost use Rattle.s38_template.specs.Grammar.{is_kept, is_odd, is_plain, is_plain_byte};
+ghost use Rattle.s38_template.specs.Grammar.{is_kept, is_odd, is_plain_byte, line_is_plain};
 
 use crate::cut::cut;
 
@@ -24,12 +24,12 @@ fn are_plain_bytes(line: &[u8]) -> bool
 /// Whether a line has at most 255 bytes, each of 20 to 7E.
 #[inline(never)]
 fn is_plain(line: &[u8]) -> bool
-    ensures { result ≡ is_plain line.now }
+    ensures { result ≡ line_is_plain line.now }
 {
     line.len() <= LONGEST && are_plain_bytes(line)
 }
 
-/// Where the first byte stands that is not plain; None where there is none.
+/// The place of the first byte that is not plain; None where there is none.
 #[inline(always)]
 fn odd_place(text: &[u8]) -> Option<usize>
     ensures place { result ≡ position is_odd text.now }
@@ -38,7 +38,7 @@ fn odd_place(text: &[u8]) -> Option<usize>
     text.iter().position(|byte| !is_plain_byte(*byte))
 }
 
-/// A line without its line feed, what stands behind that, and whether the line is plain.
+/// A line without its line feed, what comes after that, and whether the line is plain.
 #[derive(Clone, Copy)]
 pub struct NextLine<'a> {
     pub line: &'a [u8],
@@ -50,7 +50,7 @@ pub struct NextLine<'a> {
 #[inline(always)]
 fn any_line(text: &[u8]) -> Option<NextLine<'_>>
     ensures parts { option_map (λ next. (next.line.now, next.more.now)) result ≡ cut 10 text.now }
-    ensures plain { IfSome result (λ next. next.plain ≡ is_plain next.line.now) }
+    ensures plain { IfSome result (λ next. next.plain ≡ line_is_plain next.line.now) }
 {
     match cut(text, b'\n') {
         Some((line, more)) => Some(NextLine {
@@ -66,7 +66,7 @@ fn any_line(text: &[u8]) -> Option<NextLine<'_>>
 #[inline(always)]
 pub fn next_line(text: &[u8]) -> Option<NextLine<'_>>
     ensures parts { option_map (λ next. (next.line.now, next.more.now)) result ≡ cut 10 text.now }
-    ensures plain { IfSome result (λ next. next.plain ≡ is_plain next.line.now) }
+    ensures plain { IfSome result (λ next. next.plain ≡ line_is_plain next.line.now) }
 {
     match odd_place(text) {
         Some(at) if text[at] == b'\n' => Some(NextLine {

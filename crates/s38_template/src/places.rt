@@ -7,7 +7,7 @@ ghost use Rattle.s38_code.specs.declared.deck.Deck.{Deck};
 ghost use Rattle.s38_code.specs.declared.deck.Job.{Job};
 ghost use Rattle.s38_words.specs.Text.{before};
 ghost use Rattle.s38_template.specs.Grammar.{IsTemplate, Spells, name_of, template_names};
-ghost use Rattle.s38_template.specs.Places.{HasTemplate, held, place_of, placed};
+ghost use Rattle.s38_template.specs.Places.{HasTemplate, held, placed, template_place};
 ghost use Rattle.s38_words.specs.Name.{object_name};
 ghost use Rattle.s38_words.specs.ProgramLine.{program_word};
 
@@ -25,12 +25,12 @@ fn name_of(template: &Template) -> Option<Name>
     ensures { result ≡ object_name (name_of template.now) }
 {
     match template.lines().get(0) {
-        Some(head) => name_behind(head),
+        Some(head) => name_in_head(head),
         None => None,
     }
 }
 
-fn name_behind(head: &[u8]) -> Option<Name>
+fn name_in_head(head: &[u8]) -> Option<Name>
     ensures { result ≡ object_name (before 32 (drop (length program_word) head.now)) }
 {
     if head.len() < PROGRAM.len() {
@@ -39,7 +39,7 @@ fn name_behind(head: &[u8]) -> Option<Name>
     object_name(before(b' ', &head[PROGRAM.len()..]))
 }
 
-/// The name of a template, as it stands in its head.
+/// The name of a template, as its head says it.
 #[tactic(auto, using(crate::proofs::Named::template_named))]
 pub fn template_name(template: &Template) -> Name
     requires { IsTemplate template.now }
@@ -83,10 +83,10 @@ fn with_place(
     }
 }
 
-/// Where the templates of a deck stand, by their names: the run finds a job's template by it without a
+/// The places of the templates of a deck, by their names: the run finds a job's template by it without a
 /// search over all. Where two have one name, which no deck that was read has, it tells the first.
 pub fn template_places(alloc: Global, deck: &Deck) -> Result<BTreeMap<Name, usize>, NoMemory>
-    ensures { IfOk result (λ places. (q : List ℕ) → get (slice_cmp nat_cmp) places q ≡ place_of (template_names deck.now.templates) q) }
+    ensures { IfOk result (λ places. (q : List ℕ) → get (slice_cmp nat_cmp) places q ≡ template_place (template_names deck.now.templates) q) }
 {
     let mut places = BTreeMap::new(alloc);
     for (at, template) in deck.templates.as_slice().iter().enumerate() {
@@ -95,7 +95,7 @@ pub fn template_places(alloc: Global, deck: &Deck) -> Result<BTreeMap<Name, usiz
     Ok(places)
 }
 
-/// In a deck that a text spells each job's template has a place, and stands there.
+/// In a deck that a text spells each job's template has a place, and is there.
 pub fn each_job_has_its_template()
     ensures { (text : List ℕ) (deck : Deck) → Spells text deck → (k : ℕ) (job : Job) → slice_get deck.jobs k ≡ Some job → HasTemplate deck job }
 {}

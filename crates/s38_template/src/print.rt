@@ -143,7 +143,7 @@ fn add_stage(text: &mut Vec<u8>, same: bool) -> Result<(), NoMemory>
     }
 }
 
-/// Adds the line of a job behind a job of that stage.
+/// Adds the line of a job after a job of that stage.
 fn add_staged(text: &mut Vec<u8>, before: u16, job: &Job) -> Result<(), NoMemory>
     ensures { OnOk result (text.new.items ≡ text.old.items ++ (stage_part (job.now.stage == before) ++ with_feed (job_line job.now))) }
 {

@@ -1,9 +1,9 @@
 ghost use Rattle.std.specs.Prelude.{◌≡◌, ◌⊎◌, ℕ, List, Ok, Err, IfOk, IfErr, IsTrue, Some, None, is_some};
-ghost use Rattle.s38_words.specs.DeclarationLine.{behind_dcl};
+ghost use Rattle.s38_words.specs.DeclarationLine.{after_dcl};
 ghost use Rattle.s38_code.specs.declared.deck.Deck.{Deck};
-ghost use Rattle.s38_template.specs.Grammar.{Spells, is_plain};
+ghost use Rattle.s38_template.specs.Grammar.{Spells, line_is_plain};
 ghost use Rattle.s38_template.specs.Lines.{line_of};
-ghost use Rattle.s38_template.specs.Reading.{Answers, after_line, code_of, end_at, read_of, rest_at, said_code, taken_if};
+ghost use Rattle.s38_template.specs.Reading.{Answers, after_line, bad_line_code, deck_at_end, read_of, rest_at, said_code, taken_if};
 ghost use Rattle.s38_template.specs.Views.{state_of};
 ghost use Rattle.s38_template.specs.declared.said.Line.{Line};
 
@@ -45,7 +45,7 @@ fn keep_declaration(
     size: usize,
     line: &[u8],
 ) -> Result<Option<u8>, NoMemory>
-    requires { IsTrue (is_some (behind_dcl line.now)) }
+    requires { IsTrue (is_some (after_dcl line.now)) }
     ensures code { IfOk result (λ code. code ≡ said_code (state_of reader.old) size (line_of line.now)) }
     ensures after { IfOk result (λ code. code ≡ None → state_of reader.new ≡ taken_if (state_of reader.old) line.now (line_of line.now)) }
 {
@@ -84,7 +84,7 @@ fn keep_other(
 
 /// A line that says something, where the deck has so many bytes up to its end: it is taken, or its code tells
 /// what is bad.
-fn keep(
+fn keep_line(
     alloc: Global,
     reader: &mut Reader,
     size: usize,
@@ -103,7 +103,7 @@ fn keep(
 }
 
 /// Any line, without its line feed, and whether it is plain: it is taken, or its code tells what is bad.
-#[tactic(auto, unfolding(crate::specs::Reading::code_of, crate::specs::Reading::after_line))]
+#[tactic(auto, unfolding(crate::specs::Reading::bad_line_code, crate::specs::Reading::after_line))]
 fn turn(
     alloc: Global,
     reader: &mut Reader,
@@ -111,15 +111,15 @@ fn turn(
     line: &[u8],
     plain: bool,
 ) -> Result<Option<u8>, NoMemory>
-    requires { plain ≡ is_plain line.now }
-    ensures code { IfOk result (λ code. code ≡ code_of (state_of reader.old) size line.now) }
+    requires { plain ≡ line_is_plain line.now }
+    ensures code { IfOk result (λ code. code ≡ bad_line_code (state_of reader.old) size line.now) }
     ensures after { IfOk result (λ code. code ≡ None → state_of reader.new ≡ after_line (state_of reader.old) line.now) }
 {
     if !plain {
         return Ok(Some(1));
     }
     if is_kept(line) {
-        return keep(alloc, reader, size, line);
+        return keep_line(alloc, reader, size, line);
     }
     if is_small(size) {
         Ok(None)
@@ -129,9 +129,9 @@ fn turn(
 }
 
 /// The deck, where one may end here, before a line of this number.
-#[tactic(auto, unfolding(crate::specs::Reading::end_at))]
+#[tactic(auto, unfolding(crate::specs::Reading::deck_at_end))]
 fn end_at(reader: Reader, number: u32) -> Result<Deck, DeckFault>
-    ensures { Answers result (end_at (state_of reader) number) }
+    ensures { Answers result (deck_at_end (state_of reader) number) }
 {
     let Reader {
         place,
@@ -148,7 +148,7 @@ fn end_at(reader: Reader, number: u32) -> Result<Deck, DeckFault>
     }
 }
 
-/// The deck, where nothing stands behind the last line feed.
+/// The deck, where nothing comes after the last line feed.
 #[tactic(auto, unfolding(crate::specs::Reading::rest_at))]
 fn rest_at(reader: Reader, number: u32, rest: &[u8]) -> Result<Deck, DeckFault>
     ensures { Answers result (rest_at (state_of reader) number rest.now) }

@@ -11,7 +11,7 @@ pub struct JobSaid {
     pub name: Name,
     pub user: Name,
     pub template: Name,
-    /// The number behind BUDGET; one that 64 bits do not hold stands here as the largest.
+    /// The number after BUDGET; one that 64 bits do not hold is given as the largest.
     pub budget: u64,
     pub contexts: Names,
 }

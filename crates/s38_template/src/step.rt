@@ -1,6 +1,6 @@
 ghost use Rattle.std.specs.Prelude.{◌≡◌, ◌++◌, ◌∷◌, [], IfOk, IsTrue, OnOk};
 ghost use Rattle.s38_template.specs.Grammar.{is_budget};
-ghost use Rattle.s38_template.specs.Reading.{has_room, is_in_range, job_of, start, taken};
+ghost use Rattle.s38_template.specs.Reading.{has_room, job_of, line_is_in_range, start, taken};
 ghost use Rattle.s38_template.specs.declared.said.Line.{Line};
 ghost use Rattle.s38_template.specs.Views.{state_of};
 
@@ -142,7 +142,7 @@ fn join(alloc: Global, reader: &mut Reader, said: JobSaid) -> Result<(), NoMemor
 /// A good line of a deck, and what it says.
 pub fn take(alloc: Global, reader: &mut Reader, line: &[u8], said: Line) -> Result<(), NoMemory>
     requires room { IsTrue (has_room (state_of reader.old) said) }
-    requires range { IsTrue (is_in_range said) }
+    requires range { IsTrue (line_is_in_range said) }
     ensures { OnOk result (state_of reader.new ≡ taken (state_of reader.old) line.now said) }
 {
     match said {

@@ -3,7 +3,7 @@ use Rattle.std.proofs.Common.{◌≡◌, ◌∙◌, ℕ, ◌+◌, ◌-◌, ◌<�
 use Rattle.std.proofs.lemmas.List.Elements.{All-cons, All-head, All-nil, All-tail}
 use Rattle.std.proofs.lemmas.Option.{slice_get_within}
 use Rattle.std.specs.Prelude.{◌^◌, All, None, Option, Some, slice_get}
-use Rattle.s38_blocks.specs.Store.{Stands}
+use Rattle.s38_redo_log.specs.Store.{RecoversTo}
 use Rattle.s38_code.specs.declared.deck.Deck.{Deck}
 use Rattle.s38_code.specs.declared.deck.Job.{Job}
 use Rattle.s38_code.specs.declared.entry.Entry.{Entry}
@@ -12,50 +12,50 @@ use Rattle.s38_code.specs.declared.made.CheckedTemplate.{CheckedTemplate}
 use Rattle.s38_code.specs.declared.made.CreateResult.{CreateResult}
 use Rattle.s38_command.specs.declared.turns.Turns.{Turns}
 use Rattle.s38_create.specs.Checked.{made_of}
-use Rattle.s38_disk.specs.Blocks.{State as Blocks}
+use Rattle.s38_disk.specs.Blocks.{DiskState as Blocks}
 use Rattle.s38_disk.specs.Disk.{DiskView, IsAt}
-use Rattle.s38_put_laws.proofs.BeginLaws.{begins_trail}
-use Rattle.s38_put_laws.proofs.StepLaws.{images_short}
-use Rattle.s38_put_laws.specs.Trails.{IsTrailOf}
-use Rattle.s38_kept_laws.proofs.BeginLaws.{begins_kept, opening_numbered}
-use Rattle.s38_kept_laws.proofs.ImageLaws.{image_header}
-use Rattle.s38_kept_laws.proofs.StandLaws.{cleaned_stands, read_images}
-use Rattle.s38_kept_laws.specs.Beginning.{cleaned, durable_in}
-use Rattle.s38_kept_laws.specs.Kept.{IsKeptOf}
+use Rattle.s38_laws_flush.proofs.puts.BeginLaws.{begins_trail}
+use Rattle.s38_laws_flush.proofs.puts.StepLaws.{images_short}
+use Rattle.s38_laws_flush.specs.puts.Trails.{IsTrailOf}
+use Rattle.s38_laws_flush.proofs.durable.BeginLaws.{begins_kept, opening_numbered}
+use Rattle.s38_laws_flush.proofs.durable.ImageLaws.{image_header}
+use Rattle.s38_laws_flush.proofs.durable.FaultlessLaws.{cleaned_represents, read_images}
+use Rattle.s38_laws_flush.specs.durable.Beginning.{cleaned, durable_in}
+use Rattle.s38_laws_flush.specs.durable.Kept.{IsKeptOf}
 use Rattle.s38_machine.specs.Stored.{FitsStore, stored_state_of}
-use Rattle.s38_openings.proofs.BeginLaws.{opening_right, opening_well}
-use Rattle.s38_openings.specs.Opening.{IsOpening}
-use Rattle.s38_pages.specs.Index.{parts_of}
+use Rattle.s38_laws_images.proofs.openings.BeginLaws.{opening_right, opening_well}
+use Rattle.s38_laws_images.specs.openings.Opening.{IsOpening}
+use Rattle.s38_pages.specs.Index.{home_count}
 use Rattle.s38_pages.specs.Mounts.{layout_of}
 use Rattle.s38_pages.specs.Vaults.{PageStore, page_holds, page_view}
 use Rattle.s38_pages.specs.Watched.{WatchedStore, watched_view}
-use Rattle.s38_readable.proofs.TemplateLaws.{templates_made}
-use Rattle.s38_readable.specs.Forms.{HoldsForm}
-use Rattle.s38_readable.specs.Templates.{AreMade, IsMade}
-use Rattle.s38_restart_laws.proofs.BeginLaws.{begins_restartable}
-use Rattle.s38_restart_laws.specs.Restartable.{IsRestartable}
-use Rattle.s38_room.specs.Following.{Fits}
-use Rattle.s38_rules.specs.Held.{Held}
-use Rattle.s38_rules.specs.Legal.{IsProcess, Run, begun}
-use Rattle.s38_rules.specs.Room.{Room}
-use Rattle.s38_rules.specs.State.{State}
+use Rattle.s38_laws_images.proofs.readable.TemplateLaws.{templates_made}
+use Rattle.s38_laws_images.specs.readable.Forms.{HoldsForm}
+use Rattle.s38_laws_images.specs.readable.Templates.{AreMade, IsMade}
+use Rattle.s38_laws_recovery.proofs.BeginLaws.{begins_restartable}
+use Rattle.s38_laws_recovery.specs.Restartable.{IsRestartable}
+use Rattle.s38_space_rules.specs.Following.{Fits}
+use Rattle.s38_rules.specs.state.Held.{Held}
+use Rattle.s38_rules.specs.step.Legal.{IsProcess, Run, begun}
+use Rattle.s38_rules.specs.store.Room.{Room}
+use Rattle.s38_rules.specs.state.State.{State}
 use Rattle.s38_run.proofs.JobLaws.{is_begun, process_begun}
 use Rattle.s38_run.specs.Whole.{AllByProgram, AllRan, IsBegun}
 use Rattle.s38_run.specs.declared.run_end.RunEnd.{RunEnd}
 use Rattle.s38_run.specs.declared.run_end.RunEnd.TheVariants.{Complete, NoMemory, Stopped as Halted}
-use Rattle.s38_state_laws.proofs.StepLaws.{opening_in_order}
-use Rattle.s38_stored_machine.specs.Seen.{StoredBeginning, StoredView, answered_by, beginning_of, run_of, stopped_by, stopped_of}
-use Rattle.s38_stored_machine.specs.Sound.{CanBeStored, IsEnding, IsOf}
-use Rattle.s38_stored_machine.specs.declared.ending.Ending.{Ending}
-use Rattle.s38_stored_machine.specs.declared.ending.Ending.TheVariants.{Going, Stopped, Wanting}
-use Rattle.s38_stores.specs.Crashes.{GoesOn, KeepsRestarting}
-use Rattle.s38_stores.specs.Opened.{HoldsCleaned, IsFaultless, IsOpenedOn}
-use Rattle.s38_stores.specs.Stores.{Restarts}
+use Rattle.s38_laws_state.proofs.StepLaws.{opening_in_order}
+use Rattle.s38_durable_machine.specs.Seen.{StoredBeginning, StoredView, answered_by, beginning_of, run_of, stopped_by, stopped_of}
+use Rattle.s38_durable_machine.specs.Sound.{CanBeStored, EndsWithVault, IsOf}
+use Rattle.s38_durable_machine.specs.declared.ending.Ending.{Ending}
+use Rattle.s38_durable_machine.specs.declared.ending.Ending.TheVariants.{Going, Stopped, Wanting}
+use Rattle.s38_store_file.specs.Crashes.{GoesOn, KeepsRestarting}
+use Rattle.s38_store_file.specs.Opened.{HoldsCleaned, IsFaultless, IsOpenedOn}
+use Rattle.s38_store_file.specs.Stores.{Restarts}
 use Rattle.s38_template.specs.Grammar.{Spells}
 use Rattle.s38_vault.specs.Content.{Content}
 use Rattle.s38_vault.specs.Vaults.{VaultView}
-use Rattle.s38_top.proofs.TopLaws.{there_is}
-use Rattle.s38_top.specs.Decks.{checked_of, checked_template, made_for, opened, order_of}
+use Rattle.s38_top.proofs.WholeRunLaws.{there_is}
+use Rattle.s38_top.specs.Decks.{checked_of, checked_template, made_for, made_in_order, opened_machine}
 use Rattle.s38_top.specs.Ends.{IsReady}
 use Rattle.s38_top.specs.Stored.{IsBegunOver, IsSoundOn, WentOver, end_over, vault_of, watch_of}
 
@@ -96,14 +96,14 @@ module _ (deck : Deck) (made : List CreateResult) (x : StoredView WatchedStore) 
   pub begun_room : x.machine.origin.room ≡ Some room
   begun_room = ap (λ (m : Run). m.origin.room) machine
 
-  machine_is : x.machine ≡ begun (page_view (vault_of x)).moment (opened x.machine.origin.room x.machine.origin.held deck)
+  machine_is : x.machine ≡ begun (page_view (vault_of x)).moment (opened_machine x.machine.origin.room x.machine.origin.held deck)
   machine_is =
       machine
       ∙ ap (λ (xs : List CheckedTemplate). begun (watched_view w).moment (stored_state_of (Some room) h xs js)) checked
       ∙ ap (λ (xs : List Job). begun (watched_view w).moment (stored_state_of (Some room) h (checked_of deck) xs)) jobs
-      ∙ ap (λ (y : WatchedStore). begun (page_view y.now).moment (opened (Some room) h deck)) (sym vaults.1)
-      ∙ ap (λ (r : Option Room). begun (page_view (vault_of x)).moment (opened r h deck)) (sym begun_room)
-      ∙ ap (λ (k : Held). begun (page_view (vault_of x)).moment (opened x.machine.origin.room k deck)) (sym begun_held)
+      ∙ ap (λ (y : WatchedStore). begun (page_view y.now).moment (opened_machine (Some room) h deck)) (sym vaults.1)
+      ∙ ap (λ (r : Option Room). begun (page_view (vault_of x)).moment (opened_machine r h deck)) (sym begun_room)
+      ∙ ap (λ (k : Held). begun (page_view (vault_of x)).moment (opened_machine x.machine.origin.room k deck)) (sym begun_held)
 
   pub begun_over : x.ending ≡ Going → IsSoundOn x → IsOpening h → (page_view v).faults ≡ v.start → length deck.jobs ≤ 256 → length made ≡ length deck.jobs
       → ((k : ℕ) (job : Job) (one : CreateResult) → slice_get deck.jobs k ≡ Some job → slice_get made k ≡ Some one → made_for deck job ≡ Some one) → IsBegunOver deck made x
@@ -124,15 +124,15 @@ module _ (deck : Deck) (made : List CreateResult) (x : StoredView WatchedStore) 
 
 module _ (old : DiskView) (deck : Deck) (made : List CreateResult) (x : StoredView WatchedStore) (v : PageStore) (h : Held) (room : Room)
     (begins : IsBegunOver deck made x) (vault : vault_of x ≡ v) (held : x.machine.origin.held ≡ h) (has : x.machine.origin.room ≡ Some room) where
-  origin_is : x.machine.origin ≡ opened (Some room) h deck
+  origin_is : x.machine.origin ≡ opened_machine (Some room) h deck
   origin_is =
       ap (λ (m : Run). m.origin) begins.machine
-      ∙ ap (λ (r : Option Room). opened r x.machine.origin.held deck) has
-      ∙ ap (λ (k : Held). opened (Some room) k deck) held
+      ∙ ap (λ (r : Option Room). opened_machine r x.machine.origin.held deck) has
+      ∙ ap (λ (k : Held). opened_machine (Some room) k deck) held
 
   module _ (opening : IsOpening h) (restarts : (s : Blocks) → IsAt old.past s → Restarts old.size s.now h) (on : IsOpenedOn old v h room) (holds : HoldsCleaned old v) (faultless : IsFaultless old v)
       (parts : room.parts + 1 ≡ (page_view v).shape.parts) (placed : v.layout ≡ layout_of old.size) (goes : GoesOn old v.disk) (during : KeepsRestarting old v.disk) where
-    held_then : (s : Blocks) → IsAt old.past s → (m : Content) → Stands (layout_of old.size) s.now m → page_holds (vault_of x) (cleaned m) × IsOf (cleaned m) (durable_in m) x.machine.origin
+    held_then : (s : Blocks) → IsAt old.past s → (m : Content) → RecoversTo (layout_of old.size) s.now m → page_holds (vault_of x) (cleaned m) × IsOf (cleaned m) (durable_in m) x.machine.origin
     held_then s at m stands =
         let one = on s at m stands in
         let images = read_images m one.parts one.objects.sound in
@@ -142,7 +142,7 @@ module _ (old : DiskView) (deck : Deck) (made : List CreateResult) (x : StoredVi
         in (
           subst (λ (p : PageStore). page_holds p (cleaned m)) (sym vault) one.holds,
           record {
-            stands = cleaned_stands m one.parts one.objects.sound;
+            stands = cleaned_represents m one.parts one.objects.sound;
             headers = λ n y there. image_header y (images n y there);
             short = images_short x.machine.origin (durable_in m) kept images;
             kept = kept;
@@ -169,7 +169,7 @@ module _ (old : DiskView) (deck : Deck) (made : List CreateResult) (x : StoredVi
             record {
               content = was.0;
               stands = was.1.0;
-              parts = subst (λ l. room.parts + 1 ≡ parts_of l) placed parts;
+              parts = subst (λ l. room.parts + 1 ≡ home_count l) placed parts;
               counts = (on s at was.0 was.1.0).extents;
             };
       };
@@ -183,14 +183,14 @@ module _ (old : DiskView) (deck : Deck) (made : List CreateResult) (x : StoredVi
 -- ---- what a run asks of a machine that has begun
 
 module _ (deck : Deck) (made : List CreateResult) (x : StoredView WatchedStore) (begins : IsBegunOver deck made x) (js : List Job) (jobs : js ≡ deck.jobs) where
-  run_is : run_of x ≡ begun (page_view (vault_of x)).moment (opened x.machine.origin.room x.machine.origin.held deck)
+  run_is : run_of x ≡ begun (page_view (vault_of x)).moment (opened_machine x.machine.origin.room x.machine.origin.held deck)
   run_is = ap (λ (k : Ending). answered_by k x.machine) begins.going ∙ begins.machine
 
-  begun_by : (m : Run) → m ≡ begun (page_view (vault_of x)).moment (opened x.machine.origin.room x.machine.origin.held deck) → IsBegun js m
+  begun_by : (m : Run) → m ≡ begun (page_view (vault_of x)).moment (opened_machine x.machine.origin.room x.machine.origin.held deck) → IsBegun js m
   begun_by m is =
       subst (λ (xs : List Job). IsBegun xs m) (sym jobs)
       (subst (IsBegun deck.jobs) (sym is)
-      (is_begun x.machine.origin.room x.machine.origin.held (checked_of deck) deck.jobs (begun (page_view (vault_of x)).moment (opened x.machine.origin.room x.machine.origin.held deck)) refl))
+      (is_begun x.machine.origin.room x.machine.origin.held (checked_of deck) deck.jobs (begun (page_view (vault_of x)).moment (opened_machine x.machine.origin.room x.machine.origin.held deck)) refl))
 
   pub run_begun : IsBegun js (run_of x)
   run_begun = begun_by (run_of x) run_is
@@ -232,12 +232,12 @@ module _ (deck : Deck) (made : List CreateResult) (x : StoredView WatchedStore) 
         let within = slice_get_within js k job here in
         (here, there_is ms k (omega (arith, count, within)))
 
-    pub went_over : IsSoundOn y → order_of turns y.machine.origin (run_of y).history → AllByProgram ms js (run_of y).history → (end ≡ Complete → (y.ending ≡ Going) × AllRan ms js (run_of y).history)
-        → (end ≡ Halted → y.ending ≡ Stopped) → (end ≡ Halted → order_of turns y.machine.origin y.machine.history × AllByProgram ms js y.machine.history) → WentOver turns deck y end
+    pub went_over : IsSoundOn y → made_in_order turns y.machine.origin (run_of y).history → AllByProgram ms js (run_of y).history → (end ≡ Complete → (y.ending ≡ Going) × AllRan ms js (run_of y).history)
+        → (end ≡ Halted → y.ending ≡ Stopped) → (end ≡ Halted → made_in_order turns y.machine.origin y.machine.history × AllByProgram ms js y.machine.history) → WentOver turns deck y end
     went_over sound order by_program complete stopped on = record {
       sound = sound;
       watch = first_same ∙ begins.watch ∙ ap watch_of (sym vault_same);
-      origin = subst (λ (s : State). s ≡ opened s.room s.held deck) (sym origin_same) (ap (λ (m : Run). m.origin) begins.machine);
+      origin = subst (λ (s : State). s ≡ opened_machine s.room s.held deck) (sym origin_same) (ap (λ (m : Run). m.origin) begins.machine);
       opening = subst (λ (s : State). IsOpening s.held) (sym origin_same) begins.opening;
       faultless = subst (λ (p : PageStore). (page_view p).faults ≡ p.start) (sym vault_same) begins.faultless;
       order = order;
@@ -256,7 +256,7 @@ module _ (deck : Deck) (made : List CreateResult) (x : StoredView WatchedStore) 
 -- ---- ends
 
 -- the entry of a call that was answered Stopped is there
-pub some_entry : (k : Ending) (m : Run) (first now : VaultView) → IsEnding k m first now → k ≡ Stopped → 1 ≤ length m.history
+pub some_entry : (k : Ending) (m : Run) (first now : VaultView) → EndsWithVault k m first now → k ≡ Stopped → 1 ≤ length m.history
 some_entry Going m first now end is = cc
 some_entry Stopped m first now end is = end.1
 some_entry Wanting m first now end is = cc

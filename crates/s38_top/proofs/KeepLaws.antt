@@ -3,21 +3,21 @@ use Rattle.std.specs.Prelude.{Option}
 use Rattle.std.proofs.Common.{All, List, []}
 use Rattle.s38_code.specs.declared.deck.Deck.{Deck}
 use Rattle.s38_code.specs.declared.entry.Entry.{Entry}
-use Rattle.s38_openings.proofs.BeginLaws.{opening_well, run_right, run_well}
-use Rattle.s38_openings.specs.Opening.{IsOpening}
-use Rattle.s38_rules.specs.Room.{Room}
-use Rattle.s38_rules.specs.Held.{Held}
-use Rattle.s38_rules.specs.PrivateRows.{AreRows}
-use Rattle.s38_rules.specs.State.{State}
+use Rattle.s38_laws_images.proofs.openings.BeginLaws.{opening_well, run_right, run_well}
+use Rattle.s38_laws_images.specs.openings.Opening.{IsOpening}
+use Rattle.s38_rules.specs.store.Room.{Room}
+use Rattle.s38_rules.specs.state.Held.{Held}
+use Rattle.s38_rules.specs.state.PrivateRows.{AreRows}
+use Rattle.s38_rules.specs.state.State.{State}
 use Rattle.s38_run.proofs.ProgressLaws.{begins_going, history_awake, history_going}
-use Rattle.s38_state_laws.proofs.EndLaws.{nothing_left}
-use Rattle.s38_state_laws.proofs.FollowLaws.{run_live}
-use Rattle.s38_state_laws.proofs.LaterLaws.{confined_later}
-use Rattle.s38_state_laws.proofs.StepLaws.{run_in_order}
-use Rattle.s38_state_laws.specs.Live.{AreRunByJobs, AreWholeRuns}
+use Rattle.s38_laws_state.proofs.EndLaws.{nothing_left}
+use Rattle.s38_laws_state.proofs.FollowLaws.{run_live}
+use Rattle.s38_laws_state.proofs.LaterLaws.{confined_later}
+use Rattle.s38_laws_state.proofs.StepLaws.{run_in_order}
+use Rattle.s38_laws_state.specs.Live.{AreRunByJobs, AreWholeRuns}
 use Rattle.s38_top.proofs.ConfinedLaws.{as_many, each_ran, run_confined}
 use Rattle.s38_top.proofs.OwnerLaws.{run_owned, run_suits}
-use Rattle.s38_top.specs.Decks.{IsRunOf, checked_of, opened, processes_of}
+use Rattle.s38_top.specs.Decks.{IsRunOf, checked_of, opened_machine, processes_of}
 use Rattle.s38_top.specs.Laws.{KeepsLaws}
 
 -- the private rows of an opening are in order
@@ -37,7 +37,7 @@ pub run_keeps : (room : Option Room) (held : Held) (Order : State → List Entry
 run_keeps room held Order deck history opening run = record {
   confined = run_confined room held Order deck history (rows_in_order held opening) run;
   later =
-      confined_later (processes_of deck) (opened room held deck) history run.state (opening_well room held (checked_of deck) deck.jobs opening) (as_many room held deck) run.legal
+      confined_later (processes_of deck) (opened_machine room held deck) history run.state (opening_well room held (checked_of deck) deck.jobs opening) (as_many room held deck) run.legal
       (each_ran room held Order deck history run);
   owned = run_owned room held Order deck history opening run;
   suited = run_suits room held Order deck history opening run;
@@ -46,6 +46,6 @@ run_keeps room held Order deck history opening run = record {
   well = (run_well room held (checked_of deck) deck.jobs history run.state opening run.legal).0;
   ordered = (run_in_order room held (checked_of deck) deck.jobs history run.state opening run.legal).0;
   right = (run_right room held (checked_of deck) deck.jobs history run.state opening run.legal).0;
-  going = history_going (opened room held deck) history (begins_going room held (checked_of deck) deck.jobs);
-  awake = history_awake (opened room held deck) [] history run.state run.legal;
+  going = history_going (opened_machine room held deck) history (begins_going room held (checked_of deck) deck.jobs);
+  awake = history_awake (opened_machine room held deck) [] history run.state run.legal;
 }

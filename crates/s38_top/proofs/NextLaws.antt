@@ -8,20 +8,21 @@ use Rattle.s38_code.specs.declared.deck.Job.{Job}
 use Rattle.s38_code.specs.declared.entry.Entry.{Entry}
 use Rattle.s38_code.specs.declared.event.Event.{Event}
 use Rattle.s38_code.specs.declared.made.CreateResult.{CreateResult}
-use Rattle.s38_process.specs.Process.{RanFrom, behind, event_of, fresh}
-use Rattle.s38_rules.specs.Legal.{Run}
+use Rattle.s38_process.specs.Process.{event_of, fresh}
+use Rattle.s38_process.specs.AfterReply.{RanFrom, process_after}
+use Rattle.s38_rules.specs.step.Legal.{Run}
 use Rattle.s38_run.proofs.Asking.{ran_more}
 use Rattle.s38_run.proofs.JobLaws.{picked_more}
 use Rattle.s38_run.proofs.Running.{entries_other, entries_own}
 use Rattle.s38_run.specs.Picked.{Picked}
-use Rattle.s38_run.specs.Pickers.{behind_picks, number_after, number_answer, picks_of}
-use Rattle.s38_run.proofs.TurnLaws.{same_or_not}
+use Rattle.s38_run.specs.Pickers.{after_picks, number_after, number_answer, picks_of}
+use Rattle.s38_run.proofs.ListedJobs.{same_or_not}
 use Rattle.s38_run.specs.Whole.{AllByProgram, AsksNext, WasHalted}
-use Rattle.s38_stored_machine.proofs.BehindLaws.{last_call}
-use Rattle.s38_stored_machine.proofs.WantLaws.{split_last}
-use Rattle.s38_stored_machine.specs.Seen.{answered_by, call_of, stopped_by, without_last}
-use Rattle.s38_stored_machine.specs.declared.ending.Ending.{Ending}
-use Rattle.s38_stored_machine.specs.declared.ending.Ending.TheVariants.{Going, Stopped, Wanting}
+use Rattle.s38_durable_machine.proofs.SoundLaws.{last_call}
+use Rattle.s38_durable_machine.proofs.WantLaws.{split_last}
+use Rattle.s38_durable_machine.specs.Seen.{answered_by, call_of, stopped_by, without_last}
+use Rattle.s38_durable_machine.specs.declared.ending.Ending.{Ending}
+use Rattle.s38_durable_machine.specs.declared.ending.Ending.TheVariants.{Going, Stopped, Wanting}
 use Rattle.s38_workers.specs.Runs.{IsNextOf}
 
 -- ---- the call that was answered Stopped
@@ -52,10 +53,10 @@ said_of_last (x ∷ xs) P some said =
 -- ---- one entry more
 
 module _ (made : List CreateResult) (jobs : List Job) (front : List Entry) (e : Entry) (asks : AsksNext made jobs front (call_of e).0 (call_of e).1) (all : AllByProgram made jobs front) where
-  own_asks : (k : ℕ) (job : Job) (one : CreateResult) → slice_get jobs k ≡ Some job → slice_get made k ≡ Some one → k + 1 ≡ e.process → event_of (behind (fresh one job.budget) (entries_of (k + 1) front)) ≡ Some e.event
+  own_asks : (k : ℕ) (job : Job) (one : CreateResult) → slice_get jobs k ≡ Some job → slice_get made k ≡ Some one → k + 1 ≡ e.process → event_of (process_after (fresh one job.budget) (entries_of (k + 1) front)) ≡ Some e.event
   own_asks k job one job_at one_at own =
       let index : k ≡ e.process - 1 = omega (arith, own) in
-      subst (λ (p : ℕ). event_of (behind (fresh one job.budget) (entries_of p front)) ≡ Some e.event) (sym own)
+      subst (λ (p : ℕ). event_of (process_after (fresh one job.budget) (entries_of p front)) ≡ Some e.event) (sym own)
       (asks job one (subst (λ (i : ℕ). slice_get jobs i ≡ Some job) index job_at) (subst (λ (i : ℕ). slice_get made i ≡ Some one) index one_at))
 
   ran_on : (k : ℕ) (job : Job) (one : CreateResult) → slice_get jobs k ≡ Some job → slice_get made k ≡ Some one → RanFrom (fresh one job.budget) (entries_of (k + 1) (front ++ e ∷ []))
@@ -73,7 +74,7 @@ module _ (made : List CreateResult) (jobs : List Job) (front : List Entry) (e : 
 -- on one thread
 pub halted_on : (made : List CreateResult) (jobs : List Job) (pick : ℕ) (k : Ending) (m : Run) → Picked (picks_of number_answer number_after (length (answered_by k m).history) pick) (answered_by k m).origin (answered_by k m).history
     → AllByProgram made jobs (answered_by k m).history
-    → WasHalted made jobs (number_answer (behind_picks number_after (length (answered_by k m).history) pick)) (answered_by k m) (stopped_by k m.history)
+    → WasHalted made jobs (number_answer (after_picks number_after (length (answered_by k m).history) pick)) (answered_by k m) (stopped_by k m.history)
     → Picked (picks_of number_answer number_after (length m.history) pick) m.origin m.history × AllByProgram made jobs m.history
 halted_on made jobs pick Going m picked all halted = let is = halted.is in cc
 halted_on made jobs pick Wanting m picked all halted = let is = halted.is in cc

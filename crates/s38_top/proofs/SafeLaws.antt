@@ -1,36 +1,36 @@
 -- What a crash leaves of a store while a call goes on.
 use Rattle.std.proofs.Common.{◌≡◌, ◌∙◌, inl, inr, ℕ, ◌≤◌, List, [], ap, sym, subst}
 use Rattle.std.specs.Prelude.{IfErr, Option, Result, Some, None, Ok, Err}
-use Rattle.s38_closing.specs.Closing.{closing}
+use Rattle.s38_checkpoint.specs.Closing.{closing}
 use Rattle.s38_code.specs.declared.deck.Deck.{Deck}
 use Rattle.s38_code.specs.declared.entry.Entry.{Entry}
 use Rattle.s38_code.specs.declared.made.CreateResult.{CreateResult}
 use Rattle.s38_command.specs.declared.command.Command.{Command}
 use Rattle.s38_command.specs.declared.command.Command.TheVariants.{Jobs, Check, Demo, Install, List as Listing}
 use Rattle.s38_command.specs.declared.turns.Turns.{Turns}
-use Rattle.s38_disk.specs.Blocks.{State as Blocks}
+use Rattle.s38_disk.specs.Blocks.{DiskState as Blocks}
 use Rattle.s38_disk.specs.Disk.{DiskView, IsAt}
 use Rattle.s38_disk.specs.declared.block.Block.{Block}
-use Rattle.s38_durable.specs.Durable.{durable}
-use Rattle.s38_kept_laws.specs.Beginning.{cleaned, durable_in}
+use Rattle.s38_durable_state.specs.Durable.{durable}
+use Rattle.s38_laws_flush.specs.durable.Beginning.{cleaned, durable_in}
 use Rattle.s38_pages.specs.Mounts.{fewest}
 use Rattle.s38_pages.specs.Vaults.{PageStore, page_view}
 use Rattle.s38_pages.specs.Watched.{WatchedStore}
-use Rattle.s38_rules.specs.Legal.{Leads, Run}
-use Rattle.s38_rules.specs.Room.{Room}
-use Rattle.s38_rules.specs.State.{State}
-use Rattle.s38_stored_machine.specs.Seen.{StoredView}
-use Rattle.s38_stores.proofs.CrashLaws.{during_none, goes_then}
-use Rattle.s38_stores.specs.Crashes.{DuringCall, IsBetween, IsPartlyCleaned, KeepsRestarting}
-use Rattle.s38_stores.specs.Stores.{Restarts}
-use Rattle.s38_top.specs.Crash.{ArePlanned, Between, IsClosing, IsLeftAt, IsSafe, MadeRun}
-use Rattle.s38_top.specs.Decks.{IsRunTo, opened, order_of}
+use Rattle.s38_rules.specs.step.Legal.{Leads, Run}
+use Rattle.s38_rules.specs.store.Room.{Room}
+use Rattle.s38_rules.specs.state.State.{State}
+use Rattle.s38_durable_machine.specs.Seen.{StoredView}
+use Rattle.s38_store_file.proofs.CrashLaws.{during_none, goes_then}
+use Rattle.s38_store_file.specs.Crashes.{DuringCall, IsBetween, IsPartlyCleaned, KeepsRestarting}
+use Rattle.s38_store_file.specs.Stores.{Restarts}
+use Rattle.s38_top.specs.Crash.{Between, IsHistoryWithPendingCall, IsSafe, MadeRun, RecoversToCheckpointPrefix, RecoversToPrefix}
+use Rattle.s38_top.specs.Decks.{IsRunTo, made_in_order, opened_machine}
 use Rattle.s38_top.specs.Ends.{IsReady, IsSafeOf, LeftOver}
-use Rattle.s38_top.specs.Runs.{RanTo, kept_of}
+use Rattle.s38_top.specs.Runs.{RanTo, all_durable_of}
 use Rattle.s38_top.specs.Stored.{vault_of}
 use Rattle.s38_top.specs.declared.outcome.Outcome.{Outcome}
 use Rattle.s38_top.specs.declared.outcome.Outcome.TheVariants.{NoMemory}
-use Rattle.s38_top.specs.Outcome.{history_of, marks_of}
+use Rattle.s38_top.specs.Answered.{history_of, marks_of}
 use Rattle.s38_vault.specs.Content.{Content}
 
 -- ---- a disk that is left alone
@@ -64,10 +64,10 @@ unprepared_safe (Err d) new of asked turns old is keeps = safe_of asked (Jobs tu
 
 -- ---- what a run left is kept
 
-pub kept_at : {e e' : State} → e ≡ e' → (v new : DiskView) (m : Content) → DuringCall v new (IsBetween new.size m (closing e.units e.held) e.held) → DuringCall v new (IsBetween new.size m (kept_of e') e'.held)
-kept_at same v new m during = subst (λ s. DuringCall v new (IsBetween new.size m (kept_of s) s.held)) same during
+pub kept_at : {e e' : State} → e ≡ e' → (v new : DiskView) (m : Content) → DuringCall v new (IsBetween new.size m (closing e.units e.held) e.held) → DuringCall v new (IsBetween new.size m (all_durable_of e') e'.held)
+kept_at same v new m during = subst (λ s. DuringCall v new (IsBetween new.size m (all_durable_of s) s.held)) same during
 
--- ---- behind the opening
+-- ---- after the opening
 
 module _ (turns : Turns) (old new : DiskView) (deck : Deck) (made : List CreateResult) (x : StoredView WatchedStore) (o : Outcome) (ready : IsReady old deck made x)
     (left : LeftOver turns deck (vault_of x) x.machine.origin new o) where
@@ -78,10 +78,10 @@ module _ (turns : Turns) (old new : DiskView) (deck : Deck) (made : List CreateR
   s = x.machine.origin
 
   -- the state with which the run began
-  state_is : s ≡ opened (Some ready.room) s.held deck
-  state_is = origin_opened ∙ ap (λ (r : Option Room). opened r s.held deck) ready.has
+  state_is : s ≡ opened_machine (Some ready.room) s.held deck
+  state_is = origin_opened ∙ ap (λ (r : Option Room). opened_machine r s.held deck) ready.has
     where
-      origin_opened : s ≡ opened s.room s.held deck
+      origin_opened : s ≡ opened_machine s.room s.held deck
       origin_opened = ap (λ (m : Run). m.origin) ready.begun.machine
 
   abbrev ran : RanTo turns old deck left.entries
@@ -91,8 +91,8 @@ module _ (turns : Turns) (old new : DiskView) (deck : Deck) (made : List CreateR
     begins = ready.begins;
     run = record {
       state = left.run.state;
-      legal = subst (λ (r : Option Room). Leads (opened r s.held deck) [] left.entries left.run.state) ready.has left.run.legal;
-      order = subst (λ (r : Option Room). order_of turns (opened r s.held deck) left.entries) ready.has left.run.order;
+      legal = subst (λ (r : Option Room). Leads (opened_machine r s.held deck) [] left.entries left.run.state) ready.has left.run.legal;
+      order = subst (λ (r : Option Room). made_in_order turns (opened_machine r s.held deck) left.entries) ready.has left.run.order;
       each = left.run.each;
     };
   }
@@ -106,7 +106,7 @@ module _ (turns : Turns) (old new : DiskView) (deck : Deck) (made : List CreateR
     deck = deck;
     ran = ran;
     planned = left.planned;
-    plans = subst (λ (u : State). ArePlanned u left.entries left.planned) state_is left.plans;
+    plans = subst (λ (u : State). IsHistoryWithPendingCall u left.entries left.planned) state_is left.plans;
     first = (page_view v).moment;
     last = left.last;
     goes = goes_then ready.goes left.goes;
@@ -121,15 +121,15 @@ module _ (turns : Turns) (old new : DiskView) (deck : Deck) (made : List CreateR
         subst (λ (n : ℕ). Restarts n g s.held) (sym left.goes.size) (during.each t g low high ((left.goes.before t g high).1 image));
     running = λ f at rest m stands t g low high image.
         let one = ready.holds f at m stands in
-        subst (λ (u : State). IsLeftAt new.size (durable_in m) u left.planned left.marks t g) state_is
+        subst (λ (u : State). RecoversToPrefix new.size (durable_in m) u left.planned left.marks t g) state_is
         (left.running (cleaned m) (durable_in m) one.0 one.1 (large_still f at) t g low high image);
     closing = λ f at rest m stands t g low high image.
         let one = ready.holds f at m stands in
-        subst (λ (u : State). IsClosing new.size (durable (durable_in m) u left.entries) left.run.state g) state_is (left.closing (cleaned m) (durable_in m) one.0 one.1 (large_still f at) t g low high image);
+        subst (λ (u : State). RecoversToCheckpointPrefix new.size (durable (durable_in m) u left.entries) left.run.state g) state_is (left.closing (cleaned m) (durable_in m) one.0 one.1 (large_still f at) t g low high image);
   }
 
-  next_run : (o ≡ NoMemory → ⊥) → IsRunTo (Some ready.room) s.held (order_of turns) deck left.planned
-  next_run not = subst (λ (r : Option Room). IsRunTo r s.held (order_of turns) deck left.planned) ready.has (left.next not)
+  next_run : (o ≡ NoMemory → ⊥) → IsRunTo (Some ready.room) s.held (made_in_order turns) deck left.planned
+  next_run not = subst (λ (r : Option Room). IsRunTo r s.held (made_in_order turns) deck left.planned) ready.has (left.next not)
 
   pub run_safe : (asked : Option Command) → asked ≡ Some (Jobs turns) → IsSafeOf asked old new o
   unfolding run_made

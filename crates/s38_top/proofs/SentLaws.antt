@@ -4,8 +4,8 @@ use denote.Builtin.{u32}
 use denote.Param.Send.{IsSend, plain_send, view_send, recorded_send, struct_send}
 use denote.Struct.Declared.{shape}
 use Rattle.std.proofs.Crossing.{Vec-send}
-use Rattle.s38_blocks.proofs.layout.Layout.TheSendSync as layout
-use Rattle.s38_blocks.proofs.layout.Slot.TheSendSync as slot
+use Rattle.s38_redo_log.proofs.layout.Layout.TheSendSync as layout
+use Rattle.s38_redo_log.proofs.layout.Slot.TheSendSync as slot
 use Rattle.s38_vault.proofs.keyed.Keyed.TheSendSync as keyed
 use Rattle.s38_pages.proofs.marks.Marks.TheSendSync as marks
 use Rattle.s38_machine.proofs.SentLaws.{snapshot_send}
@@ -14,8 +14,8 @@ use Rattle.s38_pages.specs.contracts.page_vault.PageVault.TheInside as paged
 use Rattle.s38_pages.specs.contracts.watched.WatchedVault as Watched
 use Rattle.s38_pages.specs.contracts.watched.WatchedVault.TheInside as watched
 use Rattle.s38_pages.specs.contracts.watched.WatchedVaultVault.TheImpl.{ghosts}
-use Rattle.s38_stored_machine.specs.contracts.machine.StoredMachine as Stored
-use Rattle.s38_stored_machine.proofs.SentLaws.{stored_send}
+use Rattle.s38_durable_machine.specs.contracts.machine.StoredMachine as Stored
+use Rattle.s38_durable_machine.proofs.SentLaws.{stored_send}
 
 paged_send : (D : RattleType) (gd : _) → IsSend D → IsSend (Paged.the_row D gd)
 paged_send D gd d = view_send (paged.the_row D gd) _ _ _ _

@@ -8,15 +8,16 @@ use Rattle.s38_code.specs.declared.made.CheckedTemplate.{CheckedTemplate}
 use Rattle.s38_code.specs.declared.made.CreateResult.{CreateResult}
 use Rattle.s38_code.specs.History.{entries_of}
 use Rattle.s38_code.specs.declared.made.CreateResult.TheVariants.{Refused}
-use Rattle.s38_confinement.specs.Confined.{AllWithin, NeverUsed, StaysClosed}
-use Rattle.s38_confinement.specs.NoWay.{NoWay}
+use Rattle.s38_laws_confinement.specs.Confined.{AllWithin, NeverUsed, StaysClosed}
+use Rattle.s38_laws_confinement.specs.NoWay.{NoWay}
 use Rattle.s38_create.specs.Checked.{made_of}
-use Rattle.s38_owner_laws.specs.Beginnings.{state_over}
-use Rattle.s38_rules.specs.State.{State}
-use Rattle.s38_rules.specs.Legal.{AreMoments, Leads, no_moment}
-use Rattle.s38_rules.specs.Held.{Held}
-use Rattle.s38_rules.specs.Room.{Room}
-use Rattle.s38_process.specs.Process.{ProcessState, RanFrom, fresh}
+use Rattle.s38_laws_processes.specs.owners.Beginnings.{state_over}
+use Rattle.s38_rules.specs.state.State.{State}
+use Rattle.s38_rules.specs.step.Legal.{AreMoments, Leads, no_moment}
+use Rattle.s38_rules.specs.state.Held.{Held}
+use Rattle.s38_rules.specs.store.Room.{Room}
+use Rattle.s38_process.specs.Process.{ProcessState, fresh}
+use Rattle.s38_process.specs.AfterReply.{RanFrom}
 use Rattle.s38_run.specs.Picked.{Picked}
 use Rattle.s38_run.specs.Pickers.{number_after, number_answer, picks_of}
 use Rattle.s38_run.specs.Whole.{RanWhole}
@@ -44,13 +45,13 @@ pub record IsRunOfJob (deck : Deck) (job : Job) (entries : List Entry) : Type 0 
   pub ran : RanWhole made job.budget entries
 
 -- so many picks of the picker that begins at a number
-abbrev pub picks_by : ℕ → ℕ → List ℕ
-picks_by pick count = picks_of number_answer number_after count pick
+abbrev pub picks_begun_at : ℕ → ℕ → List ℕ
+picks_begun_at pick count = picks_of number_answer number_after count pick
 
 -- the state in which the jobs of a deck find a machine of these objects, with the deck's templates; over a store, with its
 -- room
-abbrev pub opened : Option Room → Held → Deck → State
-opened room held deck = state_over room held (checked_of deck) deck.jobs
+abbrev pub opened_machine : Option Room → Held → Deck → State
+opened_machine room held deck = state_over room held (checked_of deck) deck.jobs
 
 -- on one thread each entry is that of a job, made by the process that its pick chooses of those that are ready
 abbrev pub turns_by : {P : Type 0} → (P → ℕ) → (P → P) → P → State → List Entry → Type 0
@@ -58,16 +59,16 @@ turns_by answer after picker s history = Picked (picks_of answer after (length h
 
 -- in which order entries are made: on one thread by the picks of the picker that begins at a number; of threads nothing is
 -- said
-abbrev pub order_of : Turns → State → List Entry → Type 0
-order_of (Serial pick) s history = Picked (picks_by pick (length history)) s history
-order_of (Workers count) s history = Unit {0}
+abbrev pub made_in_order : Turns → State → List Entry → Type 0
+made_in_order (Serial pick) s history = Picked (picks_begun_at pick (length history)) s history
+made_in_order (Workers count) s history = Unit {0}
 
 -- the history is the one-thread machine's, from these objects with the deck's templates, for the whole runs of all
 -- jobs of the deck, and its entries are in this order
 pub record IsRunOf (room : Option Room) (held : Held) (Order : State → List Entry → Type 0) (deck : Deck) (history : List Entry) : Type 0 where
   pub state : State
-  pub legal : Leads (opened room held deck) [] history state
-  pub order : Order (opened room held deck) history
+  pub legal : Leads (opened_machine room held deck) [] history state
+  pub order : Order (opened_machine room held deck) history
   pub each : (k : ℕ) (job : Job) → slice_get deck.jobs k ≡ Some job → IsRunOfJob deck job (entries_of (k + 1) history)
 
 -- the entries are the first ones of a job of the deck
@@ -79,8 +80,8 @@ pub record IsFrontOfJob (deck : Deck) (job : Job) (entries : List Entry) : Type 
 -- the same of a run that was not made to its end
 pub record IsRunTo (room : Option Room) (held : Held) (Order : State → List Entry → Type 0) (deck : Deck) (history : List Entry) : Type 0 where
   pub state : State
-  pub legal : Leads (opened room held deck) [] history state
-  pub order : Order (opened room held deck) history
+  pub legal : Leads (opened_machine room held deck) [] history state
+  pub order : Order (opened_machine room held deck) history
   pub each : (k : ℕ) (job : Job) → slice_get deck.jobs k ≡ Some job → IsFrontOfJob deck job (entries_of (k + 1) history)
 
 -- ---- confinement
@@ -100,8 +101,8 @@ processes_of deck = map (process_of deck) deck.jobs
 -- and no way is open at the end
 abbrev pub IsConfined : Option Room → Held → Deck → List Entry → State → Type 0
 IsConfined room held deck history end =
-    (users : List ℕ) (o r : ℕ) → o ≢ 0 → NoWay held users o r → AllWithin users (opened room held deck) history
-    → NeverUsed (opened room held deck) history o r × StaysClosed (processes_of deck) history end users o r
+    (users : List ℕ) (o r : ℕ) → o ≢ 0 → NoWay held users o r → AllWithin users (opened_machine room held deck) history
+    → NeverUsed (opened_machine room held deck) history o r × StaysClosed (processes_of deck) history end users o r
 
 -- the mark of an entry that was answered without a store
 abbrev pub IsUnstored : ℕ → Type 0
@@ -119,7 +120,7 @@ pub record AreStoreMarks (first last : ℕ) (marks : List ℕ) (history : List E
 
 -- ---- on the way there
 
--- at this place stands the checked template of a job
+-- the checked template of a job is at this place
 pub record MadeAt (deck : Deck) (job : Job) (templates : List CheckedTemplate) (at : ℕ) : Type 0 where
   pub within : at < length templates
   pub template : CheckedTemplate

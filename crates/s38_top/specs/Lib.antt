@@ -8,4 +8,7 @@ pub mod Stored
 pub mod Lines
 pub mod Laws
 pub mod Outcome
+pub mod Served
+pub mod Causes
+pub mod Answered
 pub mod Ends

@@ -1,12 +1,12 @@
 -- The last lines that tell of a store.
 use Rattle.std.specs.Prelude.{ℕ, List, ◌∷◌, [], ◌++◌, codes, decimal}
-use Rattle.s38_stores.specs.declared.fault.BadStore.{BadStore}
-use Rattle.s38_stores.specs.declared.fault.BadStore.TheVariants as bad
+use Rattle.s38_store_file.specs.declared.fault.BadStore.{BadStore}
+use Rattle.s38_store_file.specs.declared.fault.BadStore.TheVariants as bad
 
 abbrev pub line : List ℕ → List ℕ
 line text = text ++ 10 ∷ []
 
--- a word with one number behind it, or with two
+-- a word followed by one number, or by two
 abbrev pub word_one : List ℕ → ℕ → List ℕ
 word_one word a = word ++ (codes " " ++ decimal a)
 

@@ -8,16 +8,16 @@ use Rattle.s38_code.specs.History.{entries_of}
 use Rattle.s38_command.specs.declared.turns.Turns.{Turns}
 use Rattle.s38_pages.specs.Vaults.{PageStore, page_holds, page_leaves, page_view}
 use Rattle.s38_pages.specs.Watched.{WatchedStore, watched_view}
-use Rattle.s38_process.specs.Process.{ends_by_finish}
-use Rattle.s38_openings.specs.Opening.{IsOpening}
-use Rattle.s38_rules.specs.Legal.{begun}
+use Rattle.s38_process.specs.AfterReply.{ends_by_finish}
+use Rattle.s38_laws_images.specs.openings.Opening.{IsOpening}
+use Rattle.s38_rules.specs.step.Legal.{begun}
 use Rattle.s38_run.specs.declared.run_end.RunEnd.{RunEnd}
 use Rattle.s38_run.specs.declared.run_end.RunEnd.TheVariants.{Complete, NoMemory, Stopped as Halted}
-use Rattle.s38_stored_machine.specs.Seen.{StoredView, run_of}
-use Rattle.s38_stored_machine.specs.Sound.{IsSoundOver}
-use Rattle.s38_stored_machine.specs.declared.ending.Ending.{Ending}
-use Rattle.s38_stored_machine.specs.declared.ending.Ending.TheVariants.{Going, Stopped, Wanting}
-use Rattle.s38_top.specs.Decks.{IsFrontOfJob, made_for, opened, order_of}
+use Rattle.s38_durable_machine.specs.Seen.{StoredView, run_of}
+use Rattle.s38_durable_machine.specs.Sound.{IsSoundOver}
+use Rattle.s38_durable_machine.specs.declared.ending.Ending.{Ending}
+use Rattle.s38_durable_machine.specs.declared.ending.Ending.TheVariants.{Going, Stopped, Wanting}
+use Rattle.s38_top.specs.Decks.{IsFrontOfJob, made_for, made_in_order, opened_machine}
 use Rattle.s38_vault.specs.Content.{Content}
 
 -- ---- a page vault that is watched, as a vault
@@ -42,9 +42,9 @@ abbrev pub vault_of : StoredView WatchedStore → PageStore
 vault_of x = x.first.now
 
 -- the machine has begun the jobs of the deck over a vault that did not fail yet, with objects with which a run may begin,
--- and beside it stands what creation makes of the template of each
+-- and with what creation makes of the template of each job
 pub record IsBegunOver (deck : Deck) (made : List CreateResult) (x : StoredView WatchedStore) : Type 0 where
-  pub machine : x.machine ≡ begun (page_view (vault_of x)).moment (opened x.machine.origin.room x.machine.origin.held deck)
+  pub machine : x.machine ≡ begun (page_view (vault_of x)).moment (opened_machine x.machine.origin.room x.machine.origin.held deck)
   pub vault : x.vault ≡ x.first
   pub watch : x.first ≡ watch_of (vault_of x)
   pub going : x.ending ≡ Going
@@ -69,14 +69,14 @@ end_over Wanting end = NoMemory
 pub record WentOver (turns : Turns) (deck : Deck) (x : StoredView WatchedStore) (end : RunEnd) : Type 0 where
   pub sound : IsSoundOn x
   pub watch : x.first ≡ watch_of (vault_of x)
-  pub origin : x.machine.origin ≡ opened x.machine.origin.room x.machine.origin.held deck
+  pub origin : x.machine.origin ≡ opened_machine x.machine.origin.room x.machine.origin.held deck
   pub opening : IsOpening x.machine.origin.held
   pub faultless : (page_view (vault_of x)).faults ≡ (vault_of x).start
-  pub order : order_of turns x.machine.origin (run_of x).history
+  pub order : made_in_order turns x.machine.origin (run_of x).history
   pub each : (k : ℕ) (job : Job) → slice_get deck.jobs k ≡ Some job → IsFrontOfJob deck job (entries_of (k + 1) (run_of x).history)
   pub going : end ≡ Complete → x.ending ≡ Going
   pub whole : end ≡ Complete → (k : ℕ) (job : Job) → slice_get deck.jobs k ≡ Some job → IsTrue (ends_by_finish (entries_of (k + 1) (run_of x).history))
   pub stopped : end ≡ Halted → x.ending ≡ Stopped
   -- where it has stopped, the entries with that of the call that failed are of such a run as well
-  pub order_on : end ≡ Halted → order_of turns x.machine.origin x.machine.history
+  pub order_on : end ≡ Halted → made_in_order turns x.machine.origin x.machine.history
   pub each_on : end ≡ Halted → (k : ℕ) (job : Job) → slice_get deck.jobs k ≡ Some job → IsFrontOfJob deck job (entries_of (k + 1) x.machine.history)

@@ -1,15 +1,15 @@
 //! What the words, a source and a disk come to: where a run was prepared it is made, and what it leaves is kept.
 ghost use Rattle.std.specs.Prelude.{◌≡◌, ℕ, All, false, map, true};
 ghost use Rattle.s38_base.specs.Faults.{Rose};
-ghost use Rattle.s38_kept_laws.specs.Kept.{AreImages};
-ghost use Rattle.s38_openings.specs.Closing.{CanClose};
-ghost use Rattle.s38_readable.specs.Readable.{IsFit};
-ghost use Rattle.s38_step_parts.specs.Stepping.{HaveHeaders};
+ghost use Rattle.s38_laws_flush.specs.durable.Kept.{AreImages};
+ghost use Rattle.s38_laws_images.specs.openings.Closing.{CanClose};
+ghost use Rattle.s38_laws_images.specs.readable.Readable.{IsFit};
+ghost use Rattle.s38_flush.specs.Stepping.{HaveHeaders};
 ghost use Rattle.s38_pages.specs.Mounts.{layout_of};
 ghost use Rattle.s38_pages.specs.Vaults.{page_holds, page_view};
-ghost use Rattle.s38_stores.specs.Crashes.{DuringCall, GoesOn, IsBetween};
+ghost use Rattle.s38_store_file.specs.Crashes.{DuringCall, GoesOn, IsBetween};
 ghost use Rattle.s38_command.specs.Commands.{AreTurnsOn, command_on};
-ghost use Rattle.s38_top.specs.Runs.{kept_of};
+ghost use Rattle.s38_top.specs.Runs.{all_durable_of};
 ghost use Rattle.s38_top.specs.Stored.{IsBegunOver, WentOver, vault_of};
 ghost use Rattle.s38_vault.specs.Content.{Content};
 ghost use Rattle.s38_top.specs.Ends.{CameFrom, IsDecided, IsEnd, IsSafeOf, LeftOver, end_of};
@@ -21,30 +21,31 @@ use crate::outcome::{Outcome, RunEnd, Whole};
 use crate::prepare::{ReadyRun, prepare};
 use crate::store::Decided;
 use crate::stored::{StoredRun, run_over, run_shared_over};
-use s38_close_put_laws::headers_can_be_read;
 use s38_command::Turns;
 use s38_disk::Disk;
+use s38_durable_machine::StoredEnd;
 use s38_io::Source;
-use s38_keeping::KeepFault;
+use s38_laws_checkpoint::headers_can_be_read;
+use s38_laws_images::all_are_readable;
+use s38_laws_recovery::what_is_closed_can_be_read;
+use s38_page_diff::FlushFault;
 use s38_pages::PageVault;
-use s38_readable::all_are_readable;
-use s38_restart_laws::what_is_closed_can_be_read;
-use s38_stored_machine::StoredEnd;
-use s38_stores::{Kept, keep};
+use s38_store_file::{Kept, checkpoint};
 use s38_vault::Vault;
 use std::alloc::Global;
 use std::sync::Wait;
 use std::thread::Threads;
 
 /// How a run ended by what became of what it left; None for want of memory.
-fn run_end(end: Result<(), KeepFault>) -> Option<RunEnd>
+fn run_end(end: Result<(), FlushFault>) -> Option<RunEnd>
     ensures { result ≡ end_of end }
 {
     match end {
         Ok(()) => Some(RunEnd::Kept),
-        Err(KeepFault::Failed) => Some(RunEnd::Failed),
-        Err(KeepFault::Full { needed, free }) => Some(RunEnd::Full { needed, free }),
-        Err(KeepFault::NoMemory) => None,
+        Err(FlushFault::Failed) => Some(RunEnd::Failed),
+        Err(FlushFault::Full { needed, free }) => Some(RunEnd::Full { needed, free }),
+        // A checkpoint never finds a bad header.
+        Err(FlushFault::NoMemory | FlushFault::BadHeader { .. }) => None,
     }
 }
 
@@ -54,16 +55,16 @@ fn of_whole<D: Disk>(alloc: Global, turns: Turns, whole: Whole, vault: PageVault
     requires fit { All IsFit whole.state.held.objects }
     requires faultless { (page_view vault).faults ≡ vault.start }
     ensures end { IsEnd turns whole vault (D.view result.disk) result.outcome }
-    ensures during { (m : Content) → page_holds vault m → DuringCall vault.disk (D.view result.disk) (IsBetween (D.view result.disk).size m (kept_of whole.state) whole.state.held) }
+    ensures during { (m : Content) → page_holds vault m → DuringCall vault.disk (D.view result.disk) (IsBetween (D.view result.disk).size m (all_durable_of whole.state) whole.state.held) }
     ensures goes { GoesOn vault.disk (D.view result.disk) }
     ensures placed { vault.layout ≡ layout_of (D.view result.disk).size }
-    ensures headers { HaveHeaders (kept_of whole.state) }
-    ensures images { AreImages (kept_of whole.state) }
+    ensures headers { HaveHeaders (all_durable_of whole.state) }
+    ensures images { AreImages (all_durable_of whole.state) }
 {
     headers_can_be_read(&whole.state.objects, &whole.state.units);
     all_are_readable(&whole.state.objects);
     what_is_closed_can_be_read();
-    let Kept { disk, end } = keep(alloc, vault, &whole.state.objects, &whole.state.units);
+    let Kept { disk, end } = checkpoint(alloc, vault, &whole.state.objects, &whole.state.units);
     match run_end(end) {
         None => Decided {
             outcome: Outcome::NoMemory,

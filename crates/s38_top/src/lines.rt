@@ -3,7 +3,7 @@ ghost use Rattle.s38_top.specs.Lines.{bad_store_line, bad_store_word, full_line,
 
 use s38_base::NoMemory;
 use s38_joblog::Text;
-use s38_stores::BadStore;
+use s38_store_file::BadStore;
 use std::alloc::Global;
 
 /// Adds a word and a number.

@@ -1,11 +1,12 @@
 ghost use Rattle.std.specs.Prelude.{◌≡◌, if◌then◌else◌};
-ghost use Rattle.s38_top.specs.Outcome.{end_status, faulted, status_of};
+ghost use Rattle.s38_top.specs.Outcome.{faulted};
+ghost use Rattle.s38_top.specs.Answered.{end_status, status_of};
 
 use s38_code::{Checked, Deck, Entry};
 use s38_command::Turns;
 use s38_machine::State;
 use s38_objects::Objects;
-use s38_stores::BadStore;
+use s38_store_file::BadStore;
 
 /// A run: the deck, the history, a mark for each of its entries, and what the machine came to, which says nothing where the
 /// disk failed in the midst of the run.
@@ -31,7 +32,7 @@ pub enum RunEnd {
     Kept,
     /// The disk failed.
     Failed,
-    /// The store has too few free parts, and is as it was behind the run.
+    /// The store has too few free parts, and is as it was after the run.
     Full { needed: u64, free: u32 },
     /// The disk failed in the midst of the run.
     Stopped,

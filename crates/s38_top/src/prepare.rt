@@ -7,10 +7,10 @@ ghost use Rattle.s38_template.specs.Grammar.{Spells};
 ghost use Rattle.s38_command.specs.declared.command.Command.{Command};
 ghost use Rattle.s38_command.specs.declared.turns.Turns.{Turns};
 ghost use Rattle.s38_command.specs.Commands.{AreTurnsOn, command_on};
-ghost use Rattle.s38_stores.specs.Crashes.{KeepsRestarting};
+ghost use Rattle.s38_store_file.specs.Crashes.{KeepsRestarting};
 ghost use Rattle.s38_top.specs.Decks.{checked_of};
-ghost use Rattle.s38_top.specs.Ends.{IsDecided, IsReady, IsReadFrom, IsSafeOf, IsSpelled, ReadsFrom};
-ghost use Rattle.s38_top.specs.Outcome.{OfText};
+ghost use Rattle.s38_top.specs.Ends.{IsDecided, IsReadFrom, IsReady, IsSafeOf, IsSpelled, ReadsFrom};
+ghost use Rattle.s38_top.specs.Causes.{OfText};
 
 use crate::outcome::{CheckedDeck, Outcome};
 use crate::run::run_deck;
@@ -23,7 +23,7 @@ use s38_disk::Disk;
 use s38_io::{ReadFault, Source, read_to_end};
 use s38_machine::installed;
 use s38_run::NumberPicker;
-use s38_stores::open;
+use s38_store_file::open;
 use s38_template::{DeckFault, each_job_has_its_template, read_deck};
 use std::alloc::Global;
 

@@ -3,7 +3,8 @@ ghost use Rattle.std.specs.Prelude.{◌≡◌, [], ℕ, List, Option, Some, if�
 ghost use Rattle.s38_disk.specs.Disk.{DiskView};
 ghost use Rattle.s38_command.specs.declared.command.Command.{Command};
 ghost use Rattle.s38_top.specs.Ends.{IsDecided, IsSafeOf};
-ghost use Rattle.s38_top.specs.Outcome.{IsAnswered, faulted, history_of, marks_of, status_of};
+ghost use Rattle.s38_top.specs.Outcome.{IsExplained, faulted};
+ghost use Rattle.s38_top.specs.Answered.{history_of, marks_of, status_of};
 ghost use Rattle.s38_top.specs.Outside.{outside};
 
 use crate::outcome::{CheckedDeck, Outcome, Whole};
@@ -36,7 +37,7 @@ enum Rest {
     Listed(Objects),
 }
 
-/// What an outcome leaves behind.
+/// What an outcome leaves.
 #[derive(Drop)]
 struct Parts {
     history: Vec<Entry>,
@@ -114,7 +115,7 @@ fn report_of<D>(alloc: Global, told: Told, disk: D) -> Report<D>
 pub fn reported<D, O: Sink>(alloc: Global, decided: Decided<D>, out: &mut O) -> Report<D>
     ensures disk { result.disk ≡ Some decided.disk }
     ensures answered { (asked : Option Command) (left left' : Option (List ℕ)) (taken taken' : ℕ) (old new : DiskView) → IsDecided asked left left' taken taken' old new decided.outcome
-        → IsSafeOf asked old new decided.outcome → IsAnswered asked (outside left taken (O.written out.old) (O.faults out.old) old) (outside left' taken' (O.written out.new) (O.faults out.new) new)
+        → IsSafeOf asked old new decided.outcome → IsExplained asked (outside left taken (O.written out.old) (O.faults out.old) old) (outside left' taken' (O.written out.new) (O.faults out.new) new)
         result.status result.history.items result.marks.items }
 {
     let Decided { outcome, disk } = decided;

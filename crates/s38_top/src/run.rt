@@ -1,8 +1,8 @@
 //! Runs of the jobs of a deck on a machine without a store.
 ghost use Rattle.std.specs.Prelude.{◌≡◌, ◌≤◌, ℕ, IfOk, Some, length, slice_get};
 ghost use Rattle.s38_code.specs.declared.deck.Job.{Job};
-ghost use Rattle.s38_objects.specs.Lawful.{IsLawful};
-ghost use Rattle.s38_rules.specs.Kept.{CanBeKept};
+ghost use Rattle.s38_objects.specs.Lawful.{IsObjectMap};
+ghost use Rattle.s38_rules.specs.state.Kept.{CanBeKept};
 ghost use Rattle.s38_template.specs.Places.{HasTemplate};
 ghost use Rattle.s38_top.specs.Begun.{IsStarted, IsWholeOf, held_of};
 ghost use Rattle.s38_top.specs.Decks.{checked_of, turns_by};
@@ -22,7 +22,7 @@ fn whole_of(deck: Deck, machine: Machine) -> Whole
     ensures history { result.history.items ≡ machine.history }
     ensures marks { result.marks.items ≡ machine.marks }
     ensures state { result.state ≡ machine.state }
-    ensures lawful { IsLawful result.state.held }
+    ensures lawful { IsObjectMap result.state.held }
 {
     let (history, marks, state) = machine.end();
     // Its contract says that the objects are lawful.

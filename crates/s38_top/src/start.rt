@@ -1,7 +1,7 @@
 //! A machine that has begun the jobs of a deck.
 ghost use Rattle.std.specs.Prelude.{◌≡◌, ◌≤◌, ℕ, IfOk, Some, length, slice_get};
 ghost use Rattle.s38_code.specs.declared.deck.Job.{Job};
-ghost use Rattle.s38_rules.specs.Kept.{CanBeKept};
+ghost use Rattle.s38_rules.specs.state.Kept.{CanBeKept};
 ghost use Rattle.s38_template.specs.Places.{HasTemplate};
 ghost use Rattle.s38_top.specs.Begun.{IsStarted};
 ghost use Rattle.s38_top.specs.Decks.{checked_of};

@@ -1,13 +1,14 @@
 //! The commands that are about a store alone.
 ghost use Rattle.std.specs.Prelude.{◌≡◌, Some};
 ghost use Rattle.s38_top.specs.Ends.{IsSafeOf};
-ghost use Rattle.s38_top.specs.Outcome.{OfStore, refused};
+ghost use Rattle.s38_top.specs.Causes.{OfStore};
+ghost use Rattle.s38_top.specs.Answered.{refused};
 
 use crate::outcome::Outcome;
 use s38_command::Command;
 use s38_disk::Disk;
 use s38_machine::installed;
-use s38_stores::{OpenStore, StoreRefusal, install, open};
+use s38_store_file::{OpenStore, StoreRefusal, install, open};
 use std::alloc::Global;
 
 /// What was decided, and the disk that was handed in.

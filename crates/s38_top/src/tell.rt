@@ -3,7 +3,7 @@ ghost use Rattle.std.specs.Io.KnownBytes.{Appends};
 ghost use Rattle.s38_base.specs.Faults.{Rose};
 ghost use Rattle.s38_io.specs.Sink.{AppendsFront};
 ghost use Rattle.s38_joblog.specs.Log.{last_line};
-ghost use Rattle.s38_top.specs.Outcome.{checked_text, end_line, listed_text, run_text, text_of};
+ghost use Rattle.s38_top.specs.Answered.{checked_text, listed_text, outcome_text, run_end_line, run_text};
 
 use crate::lines::{bad_store_line, full_line};
 use crate::outcome::{Outcome, RunEnd};
@@ -23,7 +23,7 @@ pub struct Told {
     pub written: bool,
 }
 
-/// A text, and the last line behind it.
+/// A text, and the last line after it.
 fn with_last_line(alloc: Global, text: Vec<u8>, count: usize) -> Result<Vec<u8>, NoMemory>
     ensures { IfOk result (λ more. more.items ≡ text.items ++ last_line count) }
 {
@@ -36,7 +36,7 @@ fn with_last_line(alloc: Global, text: Vec<u8>, count: usize) -> Result<Vec<u8>,
 /// The last line of a run over a store.
 #[tactic(auto, unfolding(crate::specs::Lines::disk_fault_line))]
 fn end_line(alloc: Global, count: usize, end: RunEnd) -> Result<Vec<u8>, NoMemory>
-    ensures { IfOk result (λ line. line.items ≡ end_line count end) }
+    ensures { IfOk result (λ line. line.items ≡ run_end_line count end) }
 {
     match end {
         RunEnd::Kept => last_line(alloc, count as u64),
@@ -86,10 +86,10 @@ fn put<O: Sink>(out: &mut O, text: &[u8]) -> bool
 }
 
 fn tell_text<O: Sink>(outcome: Outcome, text: &[u8], out: &mut O) -> Told
-    requires { text.now ≡ text_of outcome }
+    requires { text.now ≡ outcome_text outcome }
     ensures outcome { result.outcome ≡ outcome }
-    ensures told { MatchBool result.written (Appends (O.written out.old) (O.written out.new) (text_of result.outcome))
-        (Rose (O.faults out.old) (O.faults out.new) × AppendsFront (O.written out.old) (O.written out.new) (text_of result.outcome)) }
+    ensures told { MatchBool result.written (Appends (O.written out.old) (O.written out.new) (outcome_text result.outcome))
+        (Rose (O.faults out.old) (O.faults out.new) × AppendsFront (O.written out.old) (O.written out.new) (outcome_text result.outcome)) }
 {
     let written = put(out, text);
     Told { outcome, written }
@@ -97,10 +97,10 @@ fn tell_text<O: Sink>(outcome: Outcome, text: &[u8], out: &mut O) -> Told
 
 /// Writes the text of an outcome. If memory was wanted for it, the outcome is that.
 fn tell_made<O: Sink>(outcome: Outcome, text: Result<Vec<u8>, NoMemory>, out: &mut O) -> Told
-    requires { IfOk text (λ made. made.items ≡ text_of outcome) }
+    requires { IfOk text (λ made. made.items ≡ outcome_text outcome) }
     ensures outcome { (result.outcome ≡ outcome) ⊎ (result.outcome ≡ Outcome.NoMemory) }
-    ensures told { MatchBool result.written (Appends (O.written out.old) (O.written out.new) (text_of result.outcome))
-        (Rose (O.faults out.old) (O.faults out.new) × AppendsFront (O.written out.old) (O.written out.new) (text_of result.outcome)) }
+    ensures told { MatchBool result.written (Appends (O.written out.old) (O.written out.new) (outcome_text result.outcome))
+        (Rose (O.faults out.old) (O.faults out.new) × AppendsFront (O.written out.old) (O.written out.new) (outcome_text result.outcome)) }
 {
     match text {
         Err(_) => tell_text(Outcome::NoMemory, b"NO MEMORY\n", out),
@@ -112,8 +112,8 @@ fn tell_made<O: Sink>(outcome: Outcome, text: Result<Vec<u8>, NoMemory>, out: &m
 #[tactic(auto, unfolding(crate::specs::Lines::disk_fault_line))]
 pub fn tell<O: Sink>(alloc: Global, outcome: Outcome, out: &mut O) -> Told
     ensures outcome { (result.outcome ≡ outcome) ⊎ (result.outcome ≡ Outcome.NoMemory) }
-    ensures told { MatchBool result.written (Appends (O.written out.old) (O.written out.new) (text_of result.outcome))
-        (Rose (O.faults out.old) (O.faults out.new) × AppendsFront (O.written out.old) (O.written out.new) (text_of result.outcome)) }
+    ensures told { MatchBool result.written (Appends (O.written out.old) (O.written out.new) (outcome_text result.outcome))
+        (Rose (O.faults out.old) (O.faults out.new) × AppendsFront (O.written out.old) (O.written out.new) (outcome_text result.outcome)) }
 {
     match outcome {
         Outcome::BadWords => tell_text(Outcome::BadWords, b"BAD WORDS\n", out),

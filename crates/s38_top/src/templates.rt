@@ -5,7 +5,7 @@ ghost use Rattle.std.specs.Ordering.{nat_cmp};
 ghost use Rattle.s38_code.specs.declared.deck.Job.{Job};
 ghost use Rattle.s38_code.specs.declared.made.CreateResult.{CreateResult};
 ghost use Rattle.s38_template.specs.Grammar.{IsTemplate, template_names};
-ghost use Rattle.s38_template.specs.Places.{HasTemplate, place_of};
+ghost use Rattle.s38_template.specs.Places.{HasTemplate, template_place};
 ghost use Rattle.s38_top.specs.Decks.{MadeAt, checked_of, checked_template, made_for};
 
 use s38_base::{Name, NoMemory, Seq, TryClone};
@@ -41,8 +41,8 @@ pub fn checked_templates(alloc: Global, templates: &[Template]) -> Result<Checke
 /// The place of the template that a job names.
 fn place_of_job(deck: &Deck, places: &BTreeMap<Name, usize>, job: &Job) -> usize
     requires has { HasTemplate deck.now job.now }
-    requires places { (q : List ℕ) → get (slice_cmp nat_cmp) places.now q ≡ place_of (template_names deck.now.templates) q }
-    ensures { place_of (template_names deck.now.templates) job.now.template ≡ Some result }
+    requires places { (q : List ℕ) → get (slice_cmp nat_cmp) places.now q ≡ template_place (template_names deck.now.templates) q }
+    ensures { template_place (template_names deck.now.templates) job.now.template ≡ Some result }
 {
     let _ = deck;
     match places.get(&job.template) {
@@ -51,7 +51,7 @@ fn place_of_job(deck: &Deck, places: &BTreeMap<Name, usize>, job: &Job) -> usize
     }
 }
 
-/// What creation makes of the template that a job names; it stands at this place.
+/// What creation makes of the template that a job names, which is at this place.
 fn made_at(
     alloc: Global,
     deck: &Deck,
@@ -77,7 +77,7 @@ fn made_of_job(
 ) -> Result<CreateResult, NoMemory>
     requires has { HasTemplate deck.now job.now }
     requires checked { templates.now ≡ checked_of deck.now }
-    requires places { (q : List ℕ) → get (slice_cmp nat_cmp) places.now q ≡ place_of (template_names deck.now.templates) q }
+    requires places { (q : List ℕ) → get (slice_cmp nat_cmp) places.now q ≡ template_place (template_names deck.now.templates) q }
     ensures { IfOk result (λ made. made_for deck.now job.now ≡ Some made) }
 {
     let at = place_of_job(deck, places, job);

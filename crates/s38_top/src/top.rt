@@ -1,6 +1,6 @@
 ghost use Rattle.std.specs.Prelude.{IfSome, IsSome, false, map, true};
 ghost use Rattle.s38_command.specs.Commands.{command_on};
-ghost use Rattle.s38_top.specs.Outcome.{IsAnswered};
+ghost use Rattle.s38_top.specs.Outcome.{IsExplained};
 ghost use Rattle.s38_top.specs.Outside.{outside};
 
 use crate::decide::{decide_alone, decide_on_threads};
@@ -29,7 +29,7 @@ pub fn plain_top<D: Disk + Drop, I: Source, O: Sink>(
     // Each status but that of want of memory has its cause, and its text is written; status 0 has what its command promises;
     // a good call is served, unless memory is wanted, or what a run leaves finds no room; and a crash at any moment of a run
     // leaves a store that restarts to what was durable then, and gives no number again.
-    ensures answered { IfSome result.disk (λ new. IsAnswered (command_on false (map (λ w. w.now) words.now)) (outside (I.left deck.old) (I.faults deck.old) (O.written out.old) (O.faults out.old) (D.view disk))
+    ensures answered { IfSome result.disk (λ new. IsExplained (command_on false (map (λ w. w.now) words.now)) (outside (I.left deck.old) (I.faults deck.old) (O.written out.old) (O.faults out.old) (D.view disk))
         (outside (I.left deck.new) (I.faults deck.new) (O.written out.new) (O.faults out.new) (D.view new)) result.status result.history.items result.marks.items) }
 {
     let decided = decide_alone(alloc, words, deck, disk);
@@ -49,7 +49,7 @@ pub fn run_top<R: Threads + Wait + Sync, D: Disk + Drop + Send, I: Source, O: Si
     ensures back { IsSome result.disk }
 
     // The same of these words: whatever the threads did when, the history is one that the one-thread machine has.
-    ensures answered { IfSome result.disk (λ new. IsAnswered (command_on true (map (λ w. w.now) words.now)) (outside (I.left deck.old) (I.faults deck.old) (O.written out.old) (O.faults out.old) (D.view disk))
+    ensures answered { IfSome result.disk (λ new. IsExplained (command_on true (map (λ w. w.now) words.now)) (outside (I.left deck.old) (I.faults deck.old) (O.written out.old) (O.faults out.old) (D.view disk))
         (outside (I.left deck.new) (I.faults deck.new) (O.written out.new) (O.faults out.new) (D.view new)) result.status result.history.items result.marks.items) }
 {
     let decided = decide_on_threads(rt, alloc, words, deck, disk);

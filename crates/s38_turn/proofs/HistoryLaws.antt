@@ -7,7 +7,7 @@ use Rattle.s38_code.specs.declared.reply.Reply.{Reply}
 use Rattle.s38_code.specs.declared.reply.Reply.TheVariants.{MustWait}
 use Rattle.s38_code.specs.declared.step.StepFault.{StepFault}
 use Rattle.s38_code.specs.declared.step.StepFault.TheVariants as faults
-use Rattle.s38_code.specs.History.{entries_of, entry_after, IsAnswered, first_stop}
+use Rattle.s38_code.specs.History.{IsAnswered, entries_of, entry_after, first_stop}
 use Rattle.s38_turn.specs.declared.item.Item.{Item}
 use Rattle.s38_turn.specs.declared.item.Item.TheVariants.{Entered, Stopped}
 use Rattle.s38_turn.specs.declared.view.ProcessList.{ProcessList}
@@ -55,7 +55,7 @@ stop_end : (h : List Entry) (s : ℕ × Event) → items h (Some s) ≡ items h 
 stop_end [] s = refl
 stop_end (x ∷ h) s = ap (λ (z : List Item). Entered x ∷ z) (stop_end h s)
 
--- what an answer adds, and the history behind it
+-- what an answer adds, and the history after it
 pub record Adding (p : ℕ) (event : Event) (r : Result Reply StepFault) (old new : List Item) : Type 0 where
   pub added : List Item
   pub is_added : IsAdded old p event r added

@@ -57,7 +57,7 @@ pub record Ended {M : Type 0} (good : M → Type 0) (all : M → List Item) (see
 
 -- ---- the seat of the table
 
--- a machine stands in the one slot
+-- a machine is in the one slot
 abbrev pub IsOneFull : {M : Type 0} → List (Option M) → Type 0
 IsOneFull (Some m ∷ []) = Unit {0}
 IsOneFull _ = ⊥
@@ -66,7 +66,7 @@ IsOneFull _ = ⊥
 abbrev pub IsSized : TableId → Type 0
 IsSized z = (z.words ≡ 2) × (z.slots ≡ 1)
 
--- where the seat stands, and which slots are out with it
+-- the place of the seat, and which slots are out with it
 abbrev pub IsAt : {M : Type 0} → TableId → M → Place → List (ℕ × Option M) → table.Seat (Option M) (View M) → Type 0
 IsAt z first place hand s = (s.table_id ≡ z) × (s.me.0.first ≡ Some first) × (s.me.0.place ≡ place) × (s.me.1 ≡ hand)
 

@@ -1,4 +1,4 @@
--- A history as items: its entries, and behind them the call that was answered Stopped first, where there is one.
+-- A history as items: its entries, and after them the call that was answered Stopped first, where there is one.
 use Rattle.std.specs.Prelude.{◌≡◌, ◌⊎◌, ℕ, Bool, true, false, ◌==◌, List, [], ◌∷◌, ◌++◌, filter, map, Option, Some, None, Result, Ok, Err, if◌then◌else◌}
 use Rattle.s38_code.specs.declared.entry.Entry.{Entry}
 use Rattle.s38_code.specs.declared.event.Event.{Event}
@@ -17,7 +17,7 @@ abbrev pub stop_of : Option (ℕ × Event) → List Item
 stop_of None = []
 stop_of (Some s) = Stopped s.0 s.1 ∷ []
 
--- the entries of a history, and the stopped call behind them
+-- the entries of a history, and the stopped call after them
 abbrev pub items : List Entry → Option (ℕ × Event) → List Item
 items history stopped = map entered history ++ stop_of stopped
 

@@ -4,7 +4,7 @@ use s38_code::Reply;
 
 /// Who hears the reply to a call, while the turn lasts.
 pub trait Listener {
-    /// How it may stand behind a reply.
+    /// The states that it may have after a reply.
     ghost hears: { Self → Reply → Self → Type 0 };
 
     /// Hears the reply. All others wait meanwhile.

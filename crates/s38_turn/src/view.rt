@@ -1,6 +1,6 @@
 use crate::item::Item;
 
-/// Where a seat stands: it has no ticket, it waits with one, or it has the turn.
+/// The place of a seat: it has no ticket, it waits with one, or it has the turn.
 pub enum Place {
     Idle,
     Waits(u64),

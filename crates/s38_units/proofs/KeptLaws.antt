@@ -3,15 +3,17 @@ use Rattle.std.proofs.Common.{◌≡◌, ℕ, List, [], ◌∷◌, refl, sym, su
 use Rattle.std.specs.Prelude.{Option, Some, None, Result, Ok, Err, OnOk, OnErr}
 use Rattle.s38_base.specs.declared.fault.NoMemory.{NoMemory}
 use Rattle.s38_commits.specs.declared.change.UnitChange.{UnitChange}
-use Rattle.s38_journals.specs.Entries.{Entry}
+use Rattle.s38_journals.specs.Entries.{JournalRecord}
 use Rattle.s38_journals.specs.Journals.{JournalList}
 use Rattle.s38_profiles.specs.ProfileMaps.{ProfileMaps}
 use Rattle.s38_changes.proofs.KeptLaws.{IsUnkept, part_unkept}
 use Rattle.s38_rules.specs.declared.data_body.DataBody.{DataBody}
-use Rattle.s38_rules.specs.Held.{Held}
-use Rattle.s38_rules.specs.Kept.{Mirrors}
-use Rattle.s38_rules.specs.Parts.{data_lawful, data_part, journal_lawful, journal_part, on_data, on_journal, over_table}
-use Rattle.s38_rules.specs.Units.{all_undone, end_written, put_back, with_entry}
+use Rattle.s38_rules.specs.state.Held.{Held}
+use Rattle.s38_rules.specs.state.Kept.{Mirrors}
+use Rattle.s38_rules.specs.state.Parts.{data_part, journal_part}
+use Rattle.s38_rules.specs.state.PartsAt.{on_data, on_journal, over_table}
+use Rattle.s38_rules.specs.state.LawfulParts.{data_lawful, journal_lawful}
+use Rattle.s38_rules.specs.families.Units.{all_undone, end_written, journal_with_entry, put_back}
 
 data_free : IsUnkept DataBody data_part
 data_free = record { pages = λ x. refl; profile = λ x charge. refl }
@@ -33,9 +35,9 @@ journal_left maps h new n f (Ok x) ok err m = subst (λ (k : Held). Mirrors maps
 journal_left maps h new n f (Err e) ok err m = subst (λ (k : Held). Mirrors maps k) (sym err) m
 
 -- the end of a unit is written
-pub end_kept : (maps : ProfileMaps) (h : Held) (journal : Option ℕ) (entry : Entry) → Mirrors maps h → Mirrors maps (end_written h journal entry)
+pub end_kept : (maps : ProfileMaps) (h : Held) (journal : Option ℕ) (entry : JournalRecord) → Mirrors maps h → Mirrors maps (end_written h journal entry)
 end_kept maps h None entry m = m
-end_kept maps h (Some journal) entry m = journal_kept maps h journal (with_entry entry) m
+end_kept maps h (Some journal) entry m = journal_kept maps h journal (journal_with_entry entry) m
 
 -- changes are taken back
 pub undone_kept : (maps : ProfileMaps) (h : Held) (changes : List UnitChange) → Mirrors maps h → Mirrors maps (all_undone h changes)

@@ -8,15 +8,15 @@ use Rattle.std.specs.BTreeMap.{is_at}
 use Rattle.s38_commits.specs.declared.change.UnitChange.{UnitChange}
 use Rattle.s38_base.specs.declared.fault.NoMemory.{NoMemory}
 use Rattle.s38_commits.specs.Unit.{CommitUnit}
-use Rattle.s38_commits.specs.Units.{IsRising, UnitMap, above, ended, next_block, unit_of}
+use Rattle.s38_commits.specs.Units.{BlocksRise, UnitMap, above, ended, next_block, unit_of}
 use Rattle.s38_commits.proofs.WalkLaws.{ended_above, next_none, next_some}
 use Rattle.s38_commits.proofs.MapLaws.{at_key}
 use Rattle.s38_commits.proofs.FirstLaws.{first_none, first_some}
-use Rattle.s38_rules.specs.Changing.{logged}
-use Rattle.s38_rules.specs.Held.{Held}
-use Rattle.s38_rules.specs.Journaling.{goes_to, journal_for, open_units}
-use Rattle.s38_rules.specs.State.{State}
-use Rattle.s38_rules.specs.Units.{all_decommitted, all_undone, decommitted, decommitted_of, undone}
+use Rattle.s38_rules.specs.families.Changing.{logged}
+use Rattle.s38_rules.specs.state.Held.{Held}
+use Rattle.s38_rules.specs.state.Journaling.{journal_for, open_units, unit_goes_to}
+use Rattle.s38_rules.specs.state.State.{State}
+use Rattle.s38_rules.specs.families.Units.{all_decommitted, all_undone, decommitted, decommitted_of, undone}
 use Rattle.s38_units.specs.Blocks.{leads_to}
 use Rattle.s38_units.specs.Logging.{objects_logged, units_logged}
 use Rattle.s38_units.specs.Ends.{is_unit_of, taken_back}
@@ -31,8 +31,8 @@ pub logged_ok : (s : State) (p block journal : ℕ) (change : UnitChange) (r : R
     → OnOk r (h ≡ objects_logged s.held s.units p block change journal) → OnOk r (units ≡ units_logged s.held s.units p block change journal)
     → OnOk r (record s { held = h; units = units } ≡ logged s p block change)
 unfolding logged
-logged_ok s p block journal change (Ok x) h units there objects behind = rw (there, objects, behind) refl
-logged_ok s p block journal change (Err e) h units there objects behind = tt
+logged_ok s p block journal change (Ok x) h units there objects joined = rw (there, objects, joined) refl
+logged_ok s p block journal change (Err e) h units there objects joined = tt
 
 -- ---- how many units are open
 
@@ -43,7 +43,7 @@ count_blocks h [] journal = refl
 count_blocks h (e ∷ es) journal =
     let rest = count_blocks h es journal in
     elim (leads_to h journal e.0) as (λ b. length (cond b (e.0 ∷ filter (leads_to h journal) (keys_of es)) (filter (leads_to h journal) (keys_of es)))
-    ≡ length (cond b (e ∷ filter (goes_to h journal) es) (filter (goes_to h journal) es))) [
+    ≡ length (cond b (e ∷ filter (unit_goes_to h journal) es) (filter (unit_goes_to h journal) es))) [
       | true ↦ ap suc rest
       | false ↦ rest
     ]
@@ -105,7 +105,7 @@ taken_none : (s : State) (p block : ℕ) → unit_of s.units block ≡ None → 
 taken_none s p block none = rw none refl
 
 -- all units but that of a block that ended before are left
-pub taken_first : (s : State) (p : ℕ) → IsRising s.units → all_decommitted s p s.units ≡ all_decommitted (taken_back s p 0) p (above 0 (taken_back s p 0).units)
+pub taken_first : (s : State) (p : ℕ) → BlocksRise s.units → all_decommitted s p s.units ≡ all_decommitted (taken_back s p 0) p (above 0 (taken_back s p 0).units)
 unfolding all_decommitted
 taken_first s p rising = by (unit_of s.units 0) refl
   where
@@ -118,7 +118,7 @@ taken_first s p rising = by (unit_of s.units 0) refl
         ∙ ap (λ (t : State). all_decommitted t p (above 0 s.units)) (sym (taken_is s p 0 u is))
         ∙ ap (all_decommitted (taken_back s p 0) p) (sym (taken_units s p 0))
 
-pub taken_next : (s : State) (p after block : ℕ) → IsRising s.units → next_block s.units after ≡ Some block
+pub taken_next : (s : State) (p after block : ℕ) → BlocksRise s.units → next_block s.units after ≡ Some block
     → all_decommitted s p (above after s.units) ≡ all_decommitted (taken_back s p block) p (above block (taken_back s p block).units)
 unfolding all_decommitted
 taken_next s p after block rising is =

@@ -2,8 +2,8 @@
 use Rattle.std.specs.Prelude.{ℕ, ◌==◌, Bool, false, Option, Some, None, if◌then◌else◌}
 use Rattle.s38_commits.specs.Unit.{CommitUnit}
 use Rattle.s38_commits.specs.Units.{unit_of}
-use Rattle.s38_rules.specs.State.{State}
-use Rattle.s38_rules.specs.Units.{decommitted}
+use Rattle.s38_rules.specs.state.State.{State}
+use Rattle.s38_rules.specs.families.Units.{decommitted}
 
 -- there is a unit, and it is of the process
 abbrev pub is_unit_of : ℕ → Option CommitUnit → Bool

@@ -1,10 +1,10 @@
 //! The end of a process, whose units are taken back.
 ghost use Rattle.std.specs.Prelude.{◌≡◌};
 ghost use Rattle.std.specs.Option.{option_copied};
-ghost use Rattle.s38_commits.specs.Units.{IsRising};
-ghost use Rattle.s38_rules.specs.Effect.{end_at};
-ghost use Rattle.s38_rules.specs.State.{process_entry};
-ghost use Rattle.s38_rules.specs.Units.{all_decommitted};
+ghost use Rattle.s38_commits.specs.Units.{BlocksRise};
+ghost use Rattle.s38_rules.specs.step.Effect.{end_at};
+ghost use Rattle.s38_rules.specs.state.State.{process_entry};
+ghost use Rattle.s38_rules.specs.families.Units.{all_decommitted};
 ghost use Rattle.s38_units.specs.Ends.{is_unit_of, taken_back};
 
 use crate::units::decommit;
@@ -25,7 +25,7 @@ fn is_unit_of(process: u32, unit: Option<&Unit>) -> bool
 /// The unit of a commit block is taken back where it is of the process.
 fn take_back(world: &mut Core<Objects, Profiles>, process: u32, block: ObjNum)
     ensures taken { world.new ≡ taken_back world.old process block.0 }
-    ensures rising { IsRising world.old.units }
+    ensures rising { BlocksRise world.old.units }
 {
     if is_unit_of(process, world.units.get(block)) {
         decommit(world, process, block);

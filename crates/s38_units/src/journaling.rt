@@ -2,7 +2,7 @@
 ghost use Rattle.std.specs.Prelude.{◌≡◌, ◌<◌, ◌^◌, filter, length};
 ghost use Rattle.std.specs.Map.{keys_of};
 ghost use Rattle.std.specs.Option.{option_copied, option_map};
-ghost use Rattle.s38_rules.specs.Journaling.{begins_unit, block_port, data_port, is_journal, is_journaled_to, is_number, journal_behind, journal_for, journal_for_block, journal_named, open_behind, open_units};
+ghost use Rattle.s38_rules.specs.state.Journaling.{begins_unit, block_port, data_port, is_journal, is_journaled_to, is_that_number, journal_for, journal_for_block, journal_named, journal_of_port, open_after, open_units};
 ghost use Rattle.s38_units.specs.Blocks.{leads_to};
 
 use s38_base::ObjNum;
@@ -32,9 +32,9 @@ fn journal_named(objects: &Objects, port: Option<&Port>) -> Option<ObjNum>
     }
 }
 
-/// The journal space behind the port of a number, where both are there.
-pub fn journal_behind(objects: &Objects, port: ObjNum) -> Option<ObjNum>
-    ensures { option_map (λ journal. journal.0) result ≡ journal_behind objects.now port.0 }
+/// The journal space of the port of a number, where both are there.
+pub fn journal_of_port(objects: &Objects, port: ObjNum) -> Option<ObjNum>
+    ensures { option_map (λ journal. journal.0) result ≡ journal_of_port objects.now port.0 }
 {
     journal_named(objects, objects.port(port))
 }
@@ -53,7 +53,7 @@ pub fn data_port(objects: &Objects, space: ObjNum) -> ObjNum
 pub fn journal_for(objects: &Objects, space: ObjNum) -> Option<ObjNum>
     ensures { option_map (λ journal. journal.0) result ≡ journal_for objects.now space.0 }
 {
-    journal_behind(objects, data_port(objects, space))
+    journal_of_port(objects, data_port(objects, space))
 }
 
 /// The port that a commit block names, 0 for none.
@@ -70,7 +70,7 @@ pub(crate) fn block_port(objects: &Objects, block: ObjNum) -> ObjNum
 pub fn journal_for_block(objects: &Objects, block: ObjNum) -> Option<ObjNum>
     ensures { option_map (λ journal. journal.0) result ≡ journal_for_block objects.now block.0 }
 {
-    journal_behind(objects, block_port(objects, block))
+    journal_of_port(objects, block_port(objects, block))
 }
 
 /// A data space is journaled to a port.
@@ -82,9 +82,9 @@ pub(crate) fn is_journaled_to(objects: &Objects, space: ObjNum, port: ObjNum) ->
 
 /// A unit whose commit block names a port goes to a journal space.
 fn does_lead(objects: &Objects, journal: ObjNum, port: ObjNum) -> bool
-    ensures { result ≡ is_number journal.0 (journal_behind objects.now port.0) }
+    ensures { result ≡ is_that_number journal.0 (journal_of_port objects.now port.0) }
 {
-    match journal_behind(objects, port) {
+    match journal_of_port(objects, port) {
         Some(other) => other.0 == journal.0,
         None => false,
     }
@@ -98,8 +98,8 @@ fn is_known_to_lead(
     last: ObjNum,
     leads: bool,
 ) -> bool
-    requires { leads ≡ is_number journal.0 (journal_behind objects.now last.0) }
-    ensures { result ≡ is_number journal.0 (journal_behind objects.now port.0) }
+    requires { leads ≡ is_that_number journal.0 (journal_of_port objects.now last.0) }
+    ensures { result ≡ is_that_number journal.0 (journal_of_port objects.now port.0) }
 {
     if port.0 == last.0 {
         leads
@@ -153,9 +153,9 @@ pub(crate) fn begins_unit(units: &Units, block: ObjNum) -> bool
     block.0 != 0 && units.get(block).is_none()
 }
 
-/// How many units are open in a journal space behind a change.
-pub fn open_behind(objects: &Objects, units: &Units, journal: ObjNum, block: ObjNum) -> usize
-    ensures { result ≡ open_behind objects.now units.now journal.0 block.0 }
+/// How many units are open in a journal space after a change.
+pub fn open_after(objects: &Objects, units: &Units, journal: ObjNum, block: ObjNum) -> usize
+    ensures { result ≡ open_after objects.now units.now journal.0 block.0 }
 {
     let open = open_units(objects, units, journal);
     if begins_unit(units, block) {

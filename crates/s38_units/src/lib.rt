@@ -9,7 +9,7 @@ mod rules;
 mod units;
 
 pub use ends::end;
-pub use journaling::journal_for;
+pub use journaling::{journal_for, journal_for_block, journal_of_port};
 pub use logging::{log_change, log_in};
 pub use rules::{block_rules, held_rule, journal_rule, read_rule, unit_rule};
 pub use units::{commit, decommit};

@@ -2,14 +2,14 @@
 ghost use Rattle.std.specs.Prelude.{◌≡◌, None, OnErr, OnOk, false, true};
 ghost use Rattle.std.specs.Option.{ForSome, option_copied};
 ghost use Rattle.s38_commits.specs.Changes.{journal_bytes};
-ghost use Rattle.s38_commits.specs.Units.{block_of};
-ghost use Rattle.s38_journals.specs.Entries.{entered};
+ghost use Rattle.s38_commits.specs.Units.{unit_block};
+ghost use Rattle.s38_journals.specs.Entries.{logged_entry};
 ghost use Rattle.s38_journals.specs.Journals.{room_refusal};
-ghost use Rattle.s38_rules.specs.Changing.{bytes_or_none, change_entry, held_rule, is_journal_full, journal_rule, kind_between, logged, number_for, units_behind, with_change_logged};
-ghost use Rattle.s38_rules.specs.Journaling.{is_journal, journal_for};
+ghost use Rattle.s38_rules.specs.families.Changing.{bytes_or_none, change_entry, held_rule, is_journal_full, journal_rule, kind_between, logged, number_for, units_after, with_change_logged};
+ghost use Rattle.s38_rules.specs.state.Journaling.{is_journal, journal_for};
 ghost use Rattle.s38_units.specs.Logging.{objects_logged, units_logged};
 
-use crate::journaling::{journal_for, open_behind};
+use crate::journaling::{journal_for, open_after};
 use s38_base::{Bytes, NoMemory, ObjNum};
 use s38_commits::{UnitChange, Units};
 use s38_invoke::{Core, Profiles};
@@ -38,7 +38,7 @@ fn bytes_or_none(entry: &Option<Bytes>) -> &[u8]
 }
 
 fn change_entry(number: u64, process: u32, change: &UnitChange) -> JournalEntry<'_>
-    ensures { entered result ≡ change_entry number process change.now }
+    ensures { logged_entry result ≡ change_entry number process change.now }
 {
     JournalEntry {
         unit: number,
@@ -75,8 +75,8 @@ fn join(
     number: u64,
     change: &UnitChange,
 ) -> Result<(), NoMemory>
-    requires { ForSome (block_of units.old change.now.space.0 change.now.at) (λ other. other ≡ block.0) }
-    ensures ok { OnOk result (units.new ≡ units_behind units.old process block.0 number change.now) }
+    requires { ForSome (unit_block units.old change.now.space.0 change.now.at) (λ other. other ≡ block.0) }
+    ensures ok { OnOk result (units.new ≡ units_after units.old process block.0 number change.now) }
     ensures err { OnErr result (units.new ≡ units.old) }
 {
     if block.0 == 0 {
@@ -93,20 +93,20 @@ fn join(
 fn log_entry(
     journal: &mut Journal,
     units: &mut Units,
-    behind: u32,
+    units_open: u32,
     block: ObjNum,
     entry: &JournalEntry,
     change: &UnitChange,
 ) -> Result<(), NoMemory>
-    requires room { room_refusal journal.old (journal_bytes change.now) behind ≡ None }
-    requires free { ForSome (block_of units.old change.now.space.0 change.now.at) (λ other. other ≡ block.0) }
-    ensures journal { OnOk result (journal.new ≡ with_change_logged (journal_bytes change.now) behind (entered entry.now) journal.old) }
-    ensures units { OnOk result (units.new ≡ units_behind units.old entry.now.process block.0 entry.now.unit change.now) }
+    requires room { room_refusal journal.old (journal_bytes change.now) units_open ≡ None }
+    requires free { ForSome (unit_block units.old change.now.space.0 change.now.at) (λ other. other ≡ block.0) }
+    ensures journal { OnOk result (journal.new ≡ with_change_logged (journal_bytes change.now) units_open (logged_entry entry.now) journal.old) }
+    ensures units { OnOk result (units.new ≡ units_after units.old entry.now.process block.0 entry.now.unit change.now) }
     ensures journal_left { OnErr result (journal.new ≡ journal.old) }
     ensures units_left { OnErr result (units.new ≡ units.old) }
 {
     let spare = journal.spare();
-    if journal.reserve(change.journal_bytes(), behind).is_err() {
+    if journal.reserve(change.journal_bytes(), units_open).is_err() {
         return Err(NoMemory);
     }
     match join(units, block, entry.process, entry.unit, change) {
@@ -139,18 +139,18 @@ pub fn log_in(
     ensures objects_left { OnErr result (objects.new ≡ objects.old) }
     ensures units_left { OnErr result (units.new ≡ units.old) }
 {
-    let behind = open_behind(objects, units, journal, block) as u32;
+    let units_open = open_after(objects, units, journal, block) as u32;
     let Some(held) = objects.journal_mut(journal) else {
         return Ok(());
     };
     let number = number_for(units, block, held.last() + 1);
     let entry = change_entry(number, process, change);
-    log_entry(held, units, behind, block, &entry, change)
+    log_entry(held, units, units_open, block, &entry, change)
 }
 
 /// A change of a journaled data space goes to its journal space, and into the unit of its commit block; of another
 /// data space nothing is logged, and no memory taken. Where memory is refused nothing changes.
-#[tactic(auto, unfolding(s38_rules::specs::Changing::logged))]
+#[tactic(auto, unfolding(s38_rules::specs::families::Changing::logged))]
 pub fn log_change(
     world: &mut Core<Objects, Profiles>,
     process: u32,

@@ -2,11 +2,11 @@
 ghost use Rattle.std.specs.Prelude.{◌≡◌, is_some};
 ghost use Rattle.std.specs.Option.{option_copied, option_map, unwrap_or};
 ghost use Rattle.s38_journals.specs.Journals.{room_refusal};
-ghost use Rattle.s38_rules.specs.Changing.{are_units_full, block_rule, block_rules, held_rule, is_journal_full, is_unit_full, journal_rule, of_unit, read_rule, unit_rule};
-ghost use Rattle.s38_rules.specs.Parts.{no_journal};
+ghost use Rattle.s38_rules.specs.families.Changing.{are_units_full, block_rule, block_rules, held_rule, is_journal_full, is_unit_full, journal_rule, of_unit, read_rule, unit_rule};
+ghost use Rattle.s38_rules.specs.state.PartsAt.{no_journal};
 
 use crate::journaling::{
-    all_units, begins_unit, block_port, is_journaled_to, open_behind, open_units,
+    all_units, begins_unit, block_port, is_journaled_to, open_after, open_units,
 };
 use s38_base::exceptions::{
     ENTRY_HELD, LIMIT_EXCEEDED, NOT_JOURNALED, OBJECT_DESTROYED, OBJECT_TYPE_INVALID,
@@ -163,8 +163,8 @@ fn is_journal_full(
     if !is_full(objects.journal(journal), bytes, all_units(units) + 1) {
         return false;
     }
-    let behind = open_behind(objects, units, journal, block);
-    is_full(objects.journal(journal), bytes, behind)
+    let units_open = open_after(objects, units, journal, block);
+    is_full(objects.journal(journal), bytes, units_open)
 }
 
 /// One unit too many would be open in a journal space. They are counted only where so many are open in all journal

@@ -2,9 +2,9 @@
 ghost use Rattle.std.specs.Prelude.{◌≡◌};
 ghost use Rattle.std.specs.Option.{option_copied, option_map};
 ghost use Rattle.s38_commits.specs.Units.{unit_of};
-ghost use Rattle.s38_journals.specs.Entries.{entered};
-ghost use Rattle.s38_rules.specs.Parts.{on_journal, over_table};
-ghost use Rattle.s38_rules.specs.Units.{all_undone, committed, decommitted, end_entry, end_written, put_back, undone, with_entry};
+ghost use Rattle.s38_journals.specs.Entries.{logged_entry};
+ghost use Rattle.s38_rules.specs.state.PartsAt.{on_journal, over_table};
+ghost use Rattle.s38_rules.specs.families.Units.{all_undone, committed, decommitted, end_entry, end_written, journal_with_entry, put_back, undone};
 
 use crate::journaling::journal_for_block;
 use s38_base::{Bytes, ObjNum};
@@ -18,7 +18,7 @@ use s38_rules::DataBody;
 
 /// What a journal says of the end of a unit.
 fn end_entry(kind: EntryKind, process: u32, unit: &Unit) -> JournalEntry<'static>
-    ensures { entered result ≡ end_entry kind process unit.now }
+    ensures { logged_entry result ≡ end_entry kind process unit.now }
 {
     JournalEntry {
         unit: unit.number(),
@@ -32,16 +32,16 @@ fn end_entry(kind: EntryKind, process: u32, unit: &Unit) -> JournalEntry<'static
 }
 
 fn write_in(objects: &mut Objects, journal: ObjNum, entry: &JournalEntry)
-    ensures { objects.new ≡ on_journal objects.old journal.0 (with_entry (entered entry.now)) }
+    ensures { objects.new ≡ on_journal objects.old journal.0 (journal_with_entry (logged_entry entry.now)) }
 {
     if let Some(held) = objects.journal_mut(journal) {
         held.write(entry);
     }
 }
 
-/// An entry stands in a journal space, if there is one; the room for it was reserved.
+/// An entry goes into a journal space, if there is one; the room for it was reserved.
 fn write_end(objects: &mut Objects, journal: Option<ObjNum>, entry: &JournalEntry)
-    ensures { objects.new ≡ end_written objects.old (option_map (λ number. number.0) journal) (entered entry.now) }
+    ensures { objects.new ≡ end_written objects.old (option_map (λ number. number.0) journal) (logged_entry entry.now) }
 {
     match journal {
         Some(journal) => write_in(objects, journal, entry),
@@ -66,7 +66,7 @@ fn put_back(body: &mut DataBody, change: &UnitChange)
     body.space.restore(change.at, entry_slice(&change.before));
 }
 
-/// The entry before a change stands again, or none where the change inserted it.
+/// The entry before a change is there again, or none where the change inserted it.
 fn undo(objects: &mut Objects, change: &UnitChange)
     ensures { objects.new ≡ undone objects.old change.now }
 {

@@ -12,17 +12,17 @@ use Rattle.s38_code.specs.declared.operand.Operand.{Operand}
 use Rattle.s38_rules.specs.declared.need.Claim.{Claim}
 use Rattle.s38_rules.specs.declared.need.Claim.TheVariants.{Granting}
 use Rattle.s38_rules.specs.declared.object.Object.{Object}
-use Rattle.s38_rules.specs.Headers.{public_of}
-use Rattle.s38_rules.specs.Held.{Held, is_there, object}
-use Rattle.s38_rules.specs.State.{State}
-use Rattle.s38_rules.specs.Users.{acting}
-use Rattle.s38_rules.specs.Verdict.{rights_rule}
+use Rattle.s38_rules.specs.state.Headers.{public_of}
+use Rattle.s38_rules.specs.state.Held.{Held, is_there, object}
+use Rattle.s38_rules.specs.state.State.{State}
+use Rattle.s38_rules.specs.ask.Users.{acting}
+use Rattle.s38_rules.specs.ask.RightsRules.{rights_rule}
 use Rattle.s38_verdicts.specs.Asked.{checked_for, checked_on, is_checked, need_checks, needs_check, unless_failed}
 use Rattle.s38_verdicts.specs.Resolved.{Each, IsResolved, needs_of}
 use Rattle.s38_verdicts.specs.declared.resolved.Resolved.{Resolved}
-use Rattle.s38_verified.specs.Places.{AreChecked, IsSteady, is_live}
-use Rattle.s38_verified.specs.Worlds.{WorldState}
-use Rattle.s38_verified.proofs.AskLaws.{checked_none, checked_state, checked_then}
+use Rattle.s38_rights_cache.specs.Places.{AreChecked, IsSteady, is_live}
+use Rattle.s38_rights_cache.specs.Worlds.{WorldState}
+use Rattle.s38_rights_cache.proofs.AskLaws.{checked_none, checked_state, checked_then}
 
 -- whether an object is there is known by the rights of everybody
 pub there_by : (h : Held) (n : ℕ) (public : Option Rights) → public ≡ public_of (object h n) → is_some public ≡ is_there h n
@@ -64,17 +64,17 @@ pub other_checks : (w t : WorldState) (p d : ℕ) (governed : Bool) (os : List O
 other_checks w t p d governed os is checked = subst (λ (b : Bool). AreChecked w p d (checked_for Granting b os) t) (sym is) checked
 
 -- a need is resolved
-pub need_behind : (w t : WorldState) (p d : ℕ) (claim is : Claim) (governed : Bool) (os : List ObjNum) → claim ≡ is → AreChecked w p d (checked_for is governed os) t
+pub need_checked : (w t : WorldState) (p d : ℕ) (claim is : Claim) (governed : Bool) (os : List ObjNum) → claim ≡ is → AreChecked w p d (checked_for is governed os) t
     → AreChecked w p d (checked_for claim governed os) t
-need_behind w t p d claim is governed os same checked = subst (λ (c : Claim). AreChecked w p d (checked_for c governed os) t) (sym same) checked
+need_checked w t p d claim is governed os same checked = subst (λ (c : Claim). AreChecked w p d (checked_for c governed os) t) (sym same) checked
 
 -- ---- rules
 
-pub behind_none : (w t : WorldState) (p d : ℕ) (rule : Option Exception) (os : List ObjNum) → rule ≡ None → AreChecked w p d os t → AreChecked w p d (unless_failed rule os) t
-behind_none w t p d rule os none checked = subst (λ (r : Option Exception). AreChecked w p d (unless_failed r os) t) (sym none) checked
+pub after_none : (w t : WorldState) (p d : ℕ) (rule : Option Exception) (os : List ObjNum) → rule ≡ None → AreChecked w p d os t → AreChecked w p d (unless_failed rule os) t
+after_none w t p d rule os none checked = subst (λ (r : Option Exception). AreChecked w p d (unless_failed r os) t) (sym none) checked
 
-pub behind_failure : (w : WorldState) (p d : ℕ) (rule : Option Exception) (x : Exception) (os : List ObjNum) → rule ≡ Some x → IsSteady w → AreChecked w p d (unless_failed rule os) w
-behind_failure w p d rule x os fails steady = subst (λ (r : Option Exception). AreChecked w p d (unless_failed r os) w) (sym fails) (checked_none w p d steady)
+pub after_failure : (w : WorldState) (p d : ℕ) (rule : Option Exception) (x : Exception) (os : List ObjNum) → rule ≡ Some x → IsSteady w → AreChecked w p d (unless_failed rule os) w
+after_failure w p d rule x os fails steady = subst (λ (r : Option Exception). AreChecked w p d (unless_failed r os) w) (sym fails) (checked_none w p d steady)
 
 -- the claim of the first need is not met
 pub first_fails : (w t : WorldState) (p d : ℕ) (ops : List Operand) (need : Resolved) (more : List Resolved) (x : Exception)

@@ -7,10 +7,10 @@ use Rattle.s38_base.specs.Signals.{first}
 use Rattle.s38_code.specs.declared.operand.Operand.{Operand}
 use Rattle.s38_code.specs.declared.operand.Operand.TheVariants as operands
 use Rattle.s38_rules.specs.declared.need.Need.{Need}
-use Rattle.s38_rules.specs.Held.{Held}
-use Rattle.s38_rules.specs.Needs.{first_of}
-use Rattle.s38_rules.specs.Operands.{is_in_space}
-use Rattle.s38_rules.specs.Verdict.{address_rule, address_rules, by_operand, item_rule, needs_rule}
+use Rattle.s38_rules.specs.state.Held.{Held}
+use Rattle.s38_rules.specs.ask.Needs.{first_of}
+use Rattle.s38_rules.specs.ask.Receivers.{is_in_space}
+use Rattle.s38_rules.specs.ask.AddressRules.{address_rule, address_rules, by_operand, item_rule, needs_rule}
 use Rattle.s38_verdicts.specs.Plain.{are_plain}
 
 plain_item : (h : Held) (k : ℕ) (operand : Operand) → not (is_in_space (Some operand)) ≡ true → item_rule h k operand ≡ None
@@ -93,7 +93,7 @@ failed : (h : Held) (rule : Need → Option Exception) (need : Need) (x : Except
 failed h rule need x k [] plain some low high few = absurd (omega (arith, low, high))
 failed h rule need x k (operand ∷ more) plain some low high few =
     let parts = both_true (not (is_in_space (Some operand))) (are_plain more) plain in
-    by (need.place == min k 255) refl parts.0 (λ behind. failed h rule need x (k + 1) more parts.1 some behind (omega (arith, high)) few)
+    by (need.place == min k 255) refl parts.0 (λ past. failed h rule need x (k + 1) more parts.1 some past (omega (arith, high)) few)
   where
     by : (b : Bool) → (need.place == min k 255) ≡ b → not (is_in_space (Some operand)) ≡ true
         → (k + 1 ≤ need.place → by_operand (item_rule h) rule (need ∷ []) (k + 1) more ≡ Some x)
@@ -104,10 +104,10 @@ failed h rule need x k (operand ∷ more) plain some low high few =
         (plain_item h at operand own) (asked rule need at here ∙ some)
     by false here own later =
         let at = min k last_operand in
-        let behind : k + 1 ≤ need.place = grind (arith, nat_tests, here, low, few) in
+        let past : k + 1 ≤ need.place = grind (arith, nat_tests, here, low, few) in
         skip (item_rule h at operand) (needs_rule rule (need ∷ []) at) (by_operand (item_rule h) rule (need ∷ []) (k + 1) more)
         (plain_item h at operand own) (passed rule need at here)
-        ∙ later behind
+        ∙ later past
 
 -- the address rules of one need
 pub sole_rule : (h : Held) (ops : List Operand) (need : Need) → are_plain ops ≡ true → need.place ≤ length ops → need.place ≤ 255

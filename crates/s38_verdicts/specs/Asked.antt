@@ -1,4 +1,4 @@
--- On which objects an event has rights checked, and a world behind that.
+-- On which objects an event has rights checked, and the world after that.
 use Rattle.std.specs.Prelude.{ℕ, nat_lt, Bool, true, false, ◌&&◌, List, [], ◌∷◌, ◌++◌, Option, Some, None, if◌then◌else◌}
 use Rattle.s38_base.specs.declared.exception.Exception.{Exception}
 use Rattle.s38_base.specs.declared.id.ObjNum.{ObjNum}
@@ -9,15 +9,16 @@ use Rattle.s38_code.specs.declared.operand.Operand.{Operand}
 use Rattle.s38_rules.specs.declared.need.Claim.{Claim}
 use Rattle.s38_rules.specs.declared.need.Claim.TheVariants.{Available, Granting, Ownership}
 use Rattle.s38_rules.specs.declared.need.Need.{Need}
-use Rattle.s38_rules.specs.Authority.{is_governed, lacks_special}
-use Rattle.s38_rules.specs.Held.{is_there}
-use Rattle.s38_rules.specs.Instruction.{Instruction}
-use Rattle.s38_rules.specs.Rows.{row}
-use Rattle.s38_rules.specs.State.{State}
-use Rattle.s38_rules.specs.Users.{acting}
-use Rattle.s38_rules.specs.Verdict.{address_rules, rights_rule, subject}
-use Rattle.s38_verified.specs.Places.{all_found, is_live, rows_of_all}
-use Rattle.s38_verified.specs.Worlds.{WorldState}
+use Rattle.s38_rules.specs.ask.Authority.{is_governed, lacks_special}
+use Rattle.s38_rules.specs.state.Held.{is_there}
+use Rattle.s38_rules.specs.families.Instruction.{Instruction}
+use Rattle.s38_rules.specs.families.Rows.{row}
+use Rattle.s38_rules.specs.state.State.{State}
+use Rattle.s38_rules.specs.ask.Users.{acting}
+use Rattle.s38_rules.specs.ask.RightsRules.{rights_rule, subject}
+use Rattle.s38_rules.specs.ask.AddressRules.{address_rules}
+use Rattle.s38_rights_cache.specs.Places.{all_found, is_live, rows_of_all}
+use Rattle.s38_rights_cache.specs.Worlds.{WorldState}
 
 -- ---- a need
 
@@ -41,7 +42,7 @@ need_checks s p d ops need =
 
 -- ---- an instruction
 
--- behind a rule that fails nothing is checked
+-- after a rule that fails nothing is checked
 abbrev pub unless_failed : Option Exception → List ObjNum → List ObjNum
 unless_failed None objects = objects
 unless_failed (Some x) objects = []
@@ -70,7 +71,7 @@ depth_of Start = 0
 depth_of (Act depth request) = depth
 depth_of (Finish cause) = 0
 
--- behind its checks the place of its process has what was found last, if anything was
+-- after its checks the place of its process has what was found last, if anything was
 abbrev pub checked_world : WorldState → ℕ → Event → WorldState
 checked_world w p event = all_found w p (depth_of event) (checks_of w.state p event)
 

@@ -1,7 +1,7 @@
 -- Operands of which none lies in a space.
 use Rattle.std.specs.Prelude.{Bool, true, not, ◌&&◌, List, [], ◌∷◌, Some}
 use Rattle.s38_code.specs.declared.operand.Operand.{Operand}
-use Rattle.s38_rules.specs.Operands.{is_in_space}
+use Rattle.s38_rules.specs.ask.Receivers.{is_in_space}
 
 abbrev pub are_plain : List Operand → Bool
 are_plain [] = true

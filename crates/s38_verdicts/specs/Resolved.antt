@@ -9,9 +9,9 @@ use Rattle.s38_rules.specs.declared.need.Named.{Named}
 use Rattle.s38_rules.specs.declared.need.Named.TheVariants.{Written, Implied}
 use Rattle.s38_rules.specs.declared.need.Need.{Need}
 use Rattle.s38_rules.specs.declared.object.Object.{Object}
-use Rattle.s38_rules.specs.Held.{Held, kind_of, object}
-use Rattle.s38_rules.specs.Operands.{pointer_at}
-use Rattle.s38_rules.specs.Verdict.{subject}
+use Rattle.s38_rules.specs.state.Held.{Held, kind_of, object}
+use Rattle.s38_rules.specs.ask.Operands.{pointer_at}
+use Rattle.s38_rules.specs.ask.RightsRules.{subject}
 
 -- what the rules ask of an object
 abbrev pub facts_of : Object → Facts

@@ -5,9 +5,9 @@ ghost use Rattle.s38_verdicts.specs.Plain.{are_plain};
 ghost use Rattle.s38_verdicts.specs.Resolved.{Each, IsResolved, facts_of, needs_of};
 ghost use Rattle.s38_rules.specs.declared.object.Object.{Object};
 ghost use Rattle.s38_base.specs.Pointers.{target_of};
-ghost use Rattle.s38_rules.specs.Held.{object};
-ghost use Rattle.s38_rules.specs.Verdict.{address_rule, address_rules, base_rule, cells_rule, is_base, is_looked_at, is_pointer, is_sought, item_rule, named_rule, object_rule, place_rule, pointer_rule, space_rule};
-ghost use Rattle.s38_rules.specs.Parts.{space_part};
+ghost use Rattle.s38_rules.specs.state.Held.{object};
+ghost use Rattle.s38_rules.specs.ask.AddressRules.{address_rule, address_rules, base_rule, cells_rule, is_base, is_looked_at, is_pointer, is_sought, item_rule, named_rule, object_rule, place_rule, pointer_rule, space_rule};
+ghost use Rattle.s38_rules.specs.state.Parts.{space_part};
 
 use crate::by_operand::{OperandRules, by_operand};
 use crate::resolved::{Facts, Resolved};
@@ -84,7 +84,7 @@ fn base_rule(
 }
 
 /// An item in a space: its base is a pointer into a space, or to the very item, and it lies inside.
-#[tactic(auto, unfolding(s38_rules::specs::Verdict::item_rule))]
+#[tactic(auto, unfolding(s38_rules::specs::ask::AddressRules::item_rule))]
 fn item_rule(objects: &Objects, k: u8, operand: &Operand) -> Option<Exception>
     ensures { result ≡ item_rule objects.now k operand.now }
 {
@@ -168,7 +168,7 @@ fn pointer_rule(
 
 /// There is a pointer, of the kind that is used, to an object that is there, of the kind that is used.
 #[inline(always)]
-#[tactic(auto, unfolding(s38_rules::specs::Verdict::address_rule))]
+#[tactic(auto, unfolding(s38_rules::specs::ask::AddressRules::address_rule))]
 fn address_rule(objects: &Objects, operands: &[Operand], need: &Resolved) -> Option<Exception>
     requires { IsResolved objects.now operands.now need.now }
     ensures { result ≡ address_rule objects.now operands.now need.now.need }
@@ -189,7 +189,7 @@ struct Addresses<'a> {
 
 impl<'a> OperandRules for Addresses<'a> {
     ghost use Rattle.s38_verdicts.specs.Resolved.{IsResolved};
-    ghost use Rattle.s38_rules.specs.Verdict.{address_rule, item_rule};
+    ghost use Rattle.s38_rules.specs.ask.AddressRules.{address_rule, item_rule};
 
     ghost of_item = { λ a. item_rule a.objects.now };
 
@@ -217,7 +217,7 @@ fn are_plain(operands: &[Operand]) -> bool
 }
 
 /// The first address rule that fails, operand by operand.
-#[tactic(auto, unfolding(s38_rules::specs::Verdict::address_rules))]
+#[tactic(auto, unfolding(s38_rules::specs::ask::AddressRules::address_rules))]
 fn each_address(objects: &Objects, operands: &[Operand], needs: &[Resolved]) -> Option<Exception>
     requires { Each (IsResolved objects.now operands.now) needs.now }
     ensures { result ≡ address_rules objects.now operands.now (needs_of needs.now) }

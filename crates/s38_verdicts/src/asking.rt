@@ -4,18 +4,19 @@ ghost use Rattle.std.specs.Prelude.{◌≡◌, ◌≤◌, length};
 ghost use Rattle.s38_base.specs.Pointers.{carried_in};
 ghost use Rattle.s38_base.specs.Signals.{first};
 ghost use Rattle.s38_verdicts.specs.Resolved.{Each, IsResolved, needs_of};
-ghost use Rattle.s38_verdicts.specs.Anew.{anew_by};
+ghost use Rattle.s38_verdicts.specs.Anew.{must_persist_by};
 ghost use Rattle.s38_verdicts.specs.Fitting.{FitsStore};
-ghost use Rattle.s38_rules.specs.Authority.{available, is_governed, lacks_special};
-ghost use Rattle.s38_rules.specs.Headers.{public_of};
-ghost use Rattle.s38_rules.specs.Held.{object};
-ghost use Rattle.s38_rules.specs.Needs.{first_of};
-ghost use Rattle.s38_rules.specs.Rows.{row};
-ghost use Rattle.s38_rules.specs.Users.{acting};
-ghost use Rattle.s38_rules.specs.Verdict.{granting_rule, lock_rules, refused_by, refused_with, rights_rule, rights_rules, ruled_verdict};
-ghost use Rattle.s38_rules.specs.Step.{awake_verdict};
+ghost use Rattle.s38_rules.specs.ask.Authority.{available, is_governed, lacks_special};
+ghost use Rattle.s38_rules.specs.state.Headers.{public_of};
+ghost use Rattle.s38_rules.specs.state.Held.{object};
+ghost use Rattle.s38_rules.specs.ask.Needs.{first_of};
+ghost use Rattle.s38_rules.specs.families.Rows.{row};
+ghost use Rattle.s38_rules.specs.ask.Users.{acting};
+ghost use Rattle.s38_rules.specs.step.Verdict.{lock_rules, refused_by, refused_with, ruled_verdict};
+ghost use Rattle.s38_rules.specs.ask.RightsRules.{granting_rule, rights_rule, rights_rules};
+ghost use Rattle.s38_rules.specs.step.Step.{awake_verdict};
 ghost use Rattle.s38_verdicts.specs.Asked.{checked_for, checked_on, checks_of, checks_with, depth_of, is_checked, need_checks, needs_check, unless_failed};
-ghost use Rattle.s38_verified.specs.Places.{AreChecked, IsSteady};
+ghost use Rattle.s38_rights_cache.specs.Places.{AreChecked, IsSteady};
 
 use crate::addresses::address_rules;
 use crate::blocking::lock_rules;
@@ -31,8 +32,8 @@ use s38_code::Event;
 use s38_invoke::{Acting, Core, Profiles};
 use s38_objects::Objects;
 use s38_operands::{Act, fails};
+use s38_rights_cache::World;
 use s38_rules::{Claim, Need, Verdict};
-use s38_verified::World;
 
 /// A world over the machine's objects.
 type Seen = World<Objects, Profiles>;
@@ -63,7 +64,7 @@ fn special_failure(
 
 /// The special authority that an instruction needs of an acting user. Where it needs none, nobody asks who acts.
 #[inline(always)]
-#[tactic(auto, unfolding(s38_rules::specs::Authority::lacks_special))]
+#[tactic(auto, unfolding(s38_rules::specs::ask::Authority::lacks_special))]
 fn special_rule(core: &Core<Objects, Profiles>, act: Act<'_>) -> Option<Exception>
     ensures { result ≡ lacks_special core.now.held (acting core.now act.entry.process act.entry.depth) ((row act.entry.request.now.op).special core.now act.entry.process act.entry.depth act.entry.request.now) }
 {
@@ -105,7 +106,7 @@ fn is_checked(world: &Seen, act: Act<'_>, number: ObjNum, public: Option<Rights>
 
 /// The rights that are available to a process on an object, whose rights of everybody are looked up already, with those that
 /// the used pointer carries.
-#[tactic(auto, using(crate::proofs::AskedLaws::checked_there, crate::proofs::AskedLaws::checked_deep, crate::proofs::AskedLaws::checked_live, crate::proofs::AskedLaws::checked_now, crate::proofs::AskedLaws::unchecked_now, s38_verified::proofs::AskLaws::checked_state))]
+#[tactic(auto, using(crate::proofs::AskedLaws::checked_there, crate::proofs::AskedLaws::checked_deep, crate::proofs::AskedLaws::checked_live, crate::proofs::AskedLaws::checked_now, crate::proofs::AskedLaws::unchecked_now, s38_rights_cache::proofs::AskLaws::checked_state))]
 fn available_now(
     world: &mut Seen,
     act: Act<'_>,
@@ -126,7 +127,7 @@ fn available_now(
 }
 
 /// Who does not govern an object needs object management and what it gives or takes.
-#[tactic(auto, using(crate::proofs::AskedLaws::owner_checks, crate::proofs::AskedLaws::other_checks, s38_verified::proofs::AskLaws::checked_state))]
+#[tactic(auto, using(crate::proofs::AskedLaws::owner_checks, crate::proofs::AskedLaws::other_checks, s38_rights_cache::proofs::AskLaws::checked_state))]
 fn ask_granting(world: &mut Seen, act: Act<'_>, need: &Resolved) -> Option<Exception>
     requires steady { IsSteady world.old }
     requires public { IsResolved world.old.state.held act.request.now.operands need.now }
@@ -149,7 +150,7 @@ fn ask_granting(world: &mut Seen, act: Act<'_>, need: &Resolved) -> Option<Excep
 }
 
 /// What a need claims is there.
-#[tactic(auto, using(crate::proofs::ResolvedLaws::carried_by_pointer, crate::proofs::AskedLaws::need_behind, s38_verified::proofs::AskLaws::checked_none, s38_verified::proofs::AskLaws::checked_state), unfolding(s38_rules::specs::Verdict::rights_rule))]
+#[tactic(auto, using(crate::proofs::ResolvedLaws::carried_by_pointer, crate::proofs::AskedLaws::need_checked, s38_rights_cache::proofs::AskLaws::checked_none, s38_rights_cache::proofs::AskLaws::checked_state), unfolding(s38_rules::specs::ask::RightsRules::rights_rule))]
 fn ask_need(world: &mut Seen, act: Act<'_>, need: &Resolved) -> Option<Exception>
     requires steady { IsSteady world.old }
     requires resolved { IsResolved world.old.state.held act.request.now.operands need.now }
@@ -173,7 +174,7 @@ fn ask_need(world: &mut Seen, act: Act<'_>, need: &Resolved) -> Option<Exception
 }
 
 /// The first claim of these that the acting users don't meet.
-#[tactic(auto, using(crate::proofs::AskedLaws::each_left, crate::proofs::AskedLaws::first_fails, crate::proofs::AskedLaws::first_met, s38_verified::proofs::AskLaws::checked_none, s38_verified::proofs::AskLaws::checked_state))]
+#[tactic(auto, using(crate::proofs::AskedLaws::each_left, crate::proofs::AskedLaws::first_fails, crate::proofs::AskedLaws::first_met, s38_rights_cache::proofs::AskLaws::checked_none, s38_rights_cache::proofs::AskLaws::checked_state))]
 fn ask_needs(world: &mut Seen, act: Act<'_>, needs: &[Resolved]) -> Option<Exception>
     requires steady { IsSteady world.old }
     requires resolved { Each (IsResolved world.old.state.held act.request.now.operands) needs.now }
@@ -191,7 +192,7 @@ fn ask_needs(world: &mut Seen, act: Act<'_>, needs: &[Resolved]) -> Option<Excep
 }
 
 /// The special authority, and then the authority over each object, that an instruction needs of the acting users.
-#[tactic(auto, using(crate::proofs::AskedLaws::behind_failure, crate::proofs::AskedLaws::behind_none), unfolding(s38_rules::specs::Verdict::rights_rules))]
+#[tactic(auto, using(crate::proofs::AskedLaws::after_failure, crate::proofs::AskedLaws::after_none), unfolding(s38_rules::specs::ask::RightsRules::rights_rules))]
 fn ask_authority(world: &mut Seen, act: Act<'_>, needs: &[Resolved]) -> Option<Exception>
     requires steady { IsSteady world.old }
     requires resolved { Each (IsResolved world.old.state.held act.request.now.operands) needs.now }
@@ -207,7 +208,7 @@ fn ask_authority(world: &mut Seen, act: Act<'_>, needs: &[Resolved]) -> Option<E
     }
 }
 
-/// The first rule behind that of authority that an instruction fails.
+/// The first rule after that of authority that an instruction fails.
 fn later_rules(
     core: &Core<Objects, Profiles>,
     act: Act<'_>,
@@ -223,7 +224,7 @@ fn later_rules(
 }
 
 /// The first rule that an instruction fails with these needs.
-#[tactic(auto, using(crate::proofs::AskedLaws::each_left, crate::proofs::AskedLaws::behind_failure, crate::proofs::AskedLaws::behind_none))]
+#[tactic(auto, using(crate::proofs::AskedLaws::each_left, crate::proofs::AskedLaws::after_failure, crate::proofs::AskedLaws::after_none))]
 fn ask_refused_with(world: &mut Seen, act: Act<'_>, needs: &[Resolved]) -> Option<Exception>
     requires steady { IsSteady world.old }
     requires resolved { Each (IsResolved world.old.state.held act.request.now.operands) needs.now }
@@ -255,7 +256,7 @@ fn ask_refused_with_all(world: &mut Seen, act: Act<'_>, needs: &[Need]) -> Optio
 }
 
 /// The first rule that an instruction fails.
-#[tactic(auto, unfolding(s38_rules::specs::Verdict::refused_by))]
+#[tactic(auto, unfolding(s38_rules::specs::step::Verdict::refused_by))]
 fn ask_refused_by(world: &mut Seen, act: Act<'_>) -> Option<Exception>
     requires steady { IsSteady world.old }
     ensures rule { result ≡ refused_by (row act.entry.request.now.op) world.old.state act.entry.process act.entry.depth act.entry.request.now }
@@ -273,7 +274,7 @@ fn ask_refused_by(world: &mut Seen, act: Act<'_>) -> Option<Exception>
 }
 
 /// What the rules make of an event of a process that doesn't wait.
-#[tactic(auto, using(s38_verified::proofs::AskLaws::checked_none), unfolding(s38_rules::specs::Verdict::ruled_verdict, crate::specs::Asked::checks_of))]
+#[tactic(auto, using(s38_rights_cache::proofs::AskLaws::checked_none), unfolding(s38_rules::specs::step::Verdict::ruled_verdict, crate::specs::Asked::checks_of))]
 fn ask_ruled(world: &mut Seen, process: u32, event: &Event) -> Verdict
     requires steady { IsSteady world.old }
     ensures verdict { result ≡ ruled_verdict world.old.state process event.now }
@@ -296,14 +297,14 @@ fn ask_ruled(world: &mut Seen, process: u32, event: &Event) -> Verdict
 }
 
 /// What becomes of an event of a process that doesn't wait: what the rules make of it, and where they permit it, whether the
-/// store has room for what it keeps; and what the store is to keep anew of it. What is found of its rights stands in the
-/// process's place.
-#[tactic(auto, unfolding(s38_rules::specs::Step::awake_verdict))]
+/// store has room for what it keeps; and what of it must persist. What is found of its rights goes into the process's
+/// place.
+#[tactic(auto, unfolding(s38_rules::specs::step::Step::awake_verdict))]
 pub fn ask_verdict(world: &mut Seen, process: u32, event: &Event) -> Judged
     requires steady { IsSteady world.old }
     requires fits { FitsStore world.old.state }
     ensures verdict { result.verdict ≡ awake_verdict world.old.state process event.now }
-    ensures anew { result.anew ≡ anew_by world.old.state process event.now result.verdict }
+    ensures anew { result.anew ≡ must_persist_by world.old.state process event.now result.verdict }
     ensures checked { AreChecked world.old process (depth_of event.now) (checks_of world.old.state process event.now) world.new }
     ensures state { world.new.state ≡ world.old.state }
 {

@@ -2,8 +2,8 @@
 ghost use Rattle.std.specs.Prelude.{◌≡◌};
 ghost use Rattle.std.specs.Option.{option_copied};
 ghost use Rattle.s38_verdicts.specs.Resolved.{Each, IsResolved, needs_of};
-ghost use Rattle.s38_rules.specs.Blocking.{class_use, held_by, item_lock, use_at, use_rule};
-ghost use Rattle.s38_rules.specs.Verdict.{category_rule, lock_rule, lock_rules};
+ghost use Rattle.s38_rules.specs.ask.Blocking.{class_use, held_by, item_lock, use_at, use_rule};
+ghost use Rattle.s38_rules.specs.step.Verdict.{category_rule, lock_rule, lock_rules};
 
 use crate::by_operand::{OperandRules, by_operand};
 use crate::resolved::Resolved;
@@ -29,7 +29,7 @@ fn held_by(id: u16, operand: u8, lock: Option<(u32, LockState)>) -> Option<Excep
 }
 
 /// A use is refused that a lock of another process blocks.
-#[tactic(auto, unfolding(s38_rules::specs::Blocking::use_rule))]
+#[tactic(auto, unfolding(s38_rules::specs::ask::Blocking::use_rule))]
 fn use_rule(
     locks: &LockTable,
     process: u32,
@@ -59,7 +59,7 @@ fn class_use(class: Option<&Class>) -> Category
     }
 }
 
-#[tactic(auto, unfolding(s38_rules::specs::Blocking::use_at))]
+#[tactic(auto, unfolding(s38_rules::specs::ask::Blocking::use_at))]
 fn use_at(op: Op, k: u8) -> Category
     ensures { result ≡ use_at op k }
 {
@@ -67,7 +67,7 @@ fn use_at(op: Op, k: u8) -> Category
 }
 
 /// An item in a space, which is read or changed.
-#[tactic(auto, unfolding(s38_rules::specs::Blocking::item_lock))]
+#[tactic(auto, unfolding(s38_rules::specs::ask::Blocking::item_lock))]
 fn item_lock(
     world: &Core<Objects, Profiles>,
     process: u32,
@@ -107,7 +107,7 @@ fn category_rule(
 }
 
 /// What an instruction does to the object of a need.
-#[tactic(auto, unfolding(s38_rules::specs::Verdict::lock_rule))]
+#[tactic(auto, unfolding(s38_rules::specs::step::Verdict::lock_rule))]
 fn lock_rule(
     world: &Core<Objects, Profiles>,
     process: u32,
@@ -137,8 +137,8 @@ struct Uses<'a> {
 
 impl<'a> OperandRules for Uses<'a> {
     ghost use Rattle.s38_verdicts.specs.Resolved.{IsResolved};
-    ghost use Rattle.s38_rules.specs.Blocking.{item_lock};
-    ghost use Rattle.s38_rules.specs.Verdict.{lock_rule};
+    ghost use Rattle.s38_rules.specs.ask.Blocking.{item_lock};
+    ghost use Rattle.s38_rules.specs.step.Verdict.{lock_rule};
 
     ghost of_item = { λ u. item_lock u.world.now.locks u.process u.request.now.op };
 
@@ -162,7 +162,7 @@ impl<'a> OperandRules for Uses<'a> {
 
 /// The first use of an object, operand by operand, that a lock of another process blocks. Where nothing is locked no
 /// operand is looked at.
-#[tactic(auto, using(s38_rules::proofs::LockLaws::unlocked), unfolding(s38_rules::specs::Verdict::lock_rules))]
+#[tactic(auto, using(s38_rules::proofs::LockLaws::unlocked), unfolding(s38_rules::specs::step::Verdict::lock_rules))]
 pub fn lock_rules(
     world: &Core<Objects, Profiles>,
     process: u32,

@@ -2,7 +2,7 @@
 //! objects that no operand names come last.
 ghost use Rattle.std.specs.Prelude.{◌≡◌, ◌+◌, ◌<◌, ◌^◌, length};
 ghost use Rattle.s38_verdicts.specs.Resolved.{Each, needs_of};
-ghost use Rattle.s38_rules.specs.Verdict.{by_operand, needs_rule};
+ghost use Rattle.s38_rules.specs.ask.AddressRules.{by_operand, needs_rule};
 
 use crate::resolved::Resolved;
 use s38_base::Exception;

@@ -2,7 +2,7 @@
 //! was found.
 ghost use Rattle.std.specs.Prelude.{◌≡◌, ◌+◌, ◌<◌, ◌≤◌, [], ◌∷◌, ◌++◌, length};
 ghost use Rattle.std.specs.Option.{option_copied, option_map};
-ghost use Rattle.s38_rules.specs.Verdict.{subject};
+ghost use Rattle.s38_rules.specs.ask.RightsRules.{subject};
 ghost use Rattle.s38_verdicts.specs.Resolved.{Each, IsResolved, facts_of, needs_of, pointer_for, resolved};
 
 use s38_base::{Category, Kind, ObjNum, Pointer, Rights};
@@ -145,7 +145,7 @@ impl ResolvedNeeds {
     }
 }
 
-/// These needs, resolved behind others.
+/// These needs, resolved after others.
 fn add_all(all: &mut ResolvedNeeds, objects: &Objects, operands: &[Operand], needs: &[Need])
     requires room { length all.old + length needs.now ≤ 3 }
     ensures needs { needs_of all.new ≡ needs_of all.old ++ needs.now }

@@ -3,10 +3,10 @@ ghost use Rattle.std.specs.Prelude.{◌≡◌, map, Option};
 ghost use Rattle.std.specs.Option.{option_map};
 ghost use Rattle.s38_verdicts.specs.Resolved.{Each, IsResolved, facts_of, needs_of};
 ghost use Rattle.s38_rules.specs.declared.object.Object.{Object};
-ghost use Rattle.s38_rules.specs.Headers.{public_of};
-ghost use Rattle.s38_rules.specs.Held.{object};
-ghost use Rattle.s38_rules.specs.Needs.{first_of};
-ghost use Rattle.s38_rules.specs.Verdict.{claim_rule, granting_rule, names_owners, rights_rule};
+ghost use Rattle.s38_rules.specs.state.Headers.{public_of};
+ghost use Rattle.s38_rules.specs.state.Held.{object};
+ghost use Rattle.s38_rules.specs.ask.Needs.{first_of};
+ghost use Rattle.s38_rules.specs.ask.RightsRules.{claim_rule, granting_rule, names_owners, rights_rule};
 
 use crate::resolved::{Facts, Resolved};
 use s38_authority::{available_on, is_governed, missing};
@@ -87,7 +87,7 @@ fn claim_rule(
 
 /// What a need claims is there. A need whose object no operand names has no pointer, and so carries no rights.
 #[inline(always)]
-#[tactic(auto, using(crate::proofs::ResolvedLaws::carried_by_pointer), unfolding(s38_rules::specs::Verdict::rights_rule))]
+#[tactic(auto, using(crate::proofs::ResolvedLaws::carried_by_pointer), unfolding(s38_rules::specs::ask::RightsRules::rights_rule))]
 fn rights_rule(
     world: &Core<Objects, Profiles>,
     users: &[UserNum],

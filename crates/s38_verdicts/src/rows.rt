@@ -1,6 +1,6 @@
 //! What the row of an instruction asks, by its family.
 ghost use Rattle.std.specs.Prelude.{◌≡◌};
-ghost use Rattle.s38_rules.specs.Rows.{row};
+ghost use Rattle.s38_rules.specs.families.Rows.{row};
 
 use s38_admin::{contexts, grants, profiles, resolving, spaces};
 use s38_base::{Exception, Special};
@@ -16,7 +16,7 @@ use s38_programs::programs;
 
 /// What an instruction needs of its operands, in their order.
 #[inline(never)]
-#[tactic(auto, unfolding(s38_rules::specs::Rows::row_in))]
+#[tactic(auto, unfolding(s38_rules::specs::families::Rows::row_in))]
 pub fn needs(world: &Core<Objects, Profiles>, act: Act<'_>) -> Needs
     ensures { result ≡ (row act.entry.request.now.op).needs world.now act.entry.process act.entry.depth act.entry.request.now }
 {
@@ -38,7 +38,7 @@ pub fn needs(world: &Core<Objects, Profiles>, act: Act<'_>) -> Needs
 }
 
 /// The special authority that an acting user must have.
-#[tactic(auto, using(s38_rules::proofs::Laws::unspecial_contexts, s38_rules::proofs::Laws::unspecial_data_spaces, s38_rules::proofs::Laws::unspecial_indexes, s38_rules::proofs::Laws::unspecial_journals, s38_rules::proofs::Laws::unspecial_locks, s38_rules::proofs::Laws::unspecial_programs, s38_rules::proofs::Laws::unspecial_queues, s38_rules::proofs::Laws::unspecial_resolving, s38_rules::proofs::Laws::unspecial_spaces), unfolding(s38_rules::specs::Rows::row_in))]
+#[tactic(auto, using(s38_rules::proofs::Laws::unspecial_contexts, s38_rules::proofs::Laws::unspecial_data_spaces, s38_rules::proofs::Laws::unspecial_indexes, s38_rules::proofs::Laws::unspecial_journals, s38_rules::proofs::Laws::unspecial_locks, s38_rules::proofs::Laws::unspecial_programs, s38_rules::proofs::Laws::unspecial_queues, s38_rules::proofs::Laws::unspecial_resolving, s38_rules::proofs::Laws::unspecial_spaces), unfolding(s38_rules::specs::families::Rows::row_in))]
 pub fn special(world: &Core<Objects, Profiles>, act: Act<'_>) -> Special
     ensures { result.0 ≡ (row act.entry.request.now.op).special world.now act.entry.process act.entry.depth act.entry.request.now }
 {
@@ -50,7 +50,7 @@ pub fn special(world: &Core<Objects, Profiles>, act: Act<'_>) -> Special
 }
 
 /// The first of its conditions and limits that fails.
-#[tactic(auto, unfolding(s38_rules::specs::Rows::row_in))]
+#[tactic(auto, unfolding(s38_rules::specs::families::Rows::row_in))]
 pub fn conditions(world: &Core<Objects, Profiles>, act: Act<'_>) -> Option<Exception>
     ensures { result ≡ (row act.entry.request.now.op).fails world.now act.entry.process act.entry.depth act.entry.request.now }
 {

@@ -4,12 +4,13 @@ ghost use Rattle.std.specs.Option.{option_copied};
 ghost use Rattle.s38_base.specs.Signals.{first};
 ghost use Rattle.s38_verdicts.specs.Resolved.{Each, IsResolved, needs_of};
 ghost use Rattle.s38_verdicts.specs.Fitting.{FitsStore};
-ghost use Rattle.s38_rules.specs.Authority.{lacks_special};
-ghost use Rattle.s38_rules.specs.Needs.{first_of};
-ghost use Rattle.s38_rules.specs.Rows.{row};
-ghost use Rattle.s38_rules.specs.Users.{acting};
-ghost use Rattle.s38_rules.specs.Verdict.{may_wait, of_failure, of_request, refused_by, refused_with, rights_rule, rights_rules, ruled_verdict, says_wait, start_verdict, unless_last};
-ghost use Rattle.s38_rules.specs.Step.{awake_verdict, verdict_of};
+ghost use Rattle.s38_rules.specs.ask.Authority.{lacks_special};
+ghost use Rattle.s38_rules.specs.ask.Needs.{first_of};
+ghost use Rattle.s38_rules.specs.families.Rows.{row};
+ghost use Rattle.s38_rules.specs.ask.Users.{acting};
+ghost use Rattle.s38_rules.specs.step.Verdict.{may_wait, of_failure, of_request, refused_by, refused_with, ruled_verdict, says_wait, start_verdict, unless_last};
+ghost use Rattle.s38_rules.specs.ask.RightsRules.{rights_rule, rights_rules};
+ghost use Rattle.s38_rules.specs.step.Step.{awake_verdict, verdict_of};
 
 use crate::addresses::address_rules;
 use crate::blocking::lock_rules;
@@ -68,7 +69,7 @@ fn authority_of_all(
 }
 
 /// The special authority, and then the authority over each object, that an instruction needs of the acting users.
-#[tactic(auto, unfolding(s38_rules::specs::Verdict::rights_rules))]
+#[tactic(auto, unfolding(s38_rules::specs::ask::RightsRules::rights_rules))]
 fn authority_rules(
     world: &Core<Objects, Profiles>,
     act: Act<'_>,
@@ -129,7 +130,7 @@ fn refused_with_all(
 }
 
 /// The first rule that an instruction fails. Each of its needs is resolved once, and all rules go over that.
-#[tactic(auto, unfolding(s38_rules::specs::Verdict::refused_by))]
+#[tactic(auto, unfolding(s38_rules::specs::step::Verdict::refused_by))]
 fn refused_by(world: &Core<Objects, Profiles>, act: Act<'_>) -> Option<Exception>
     ensures { result ≡ refused_by (row act.entry.request.now.op) world.now act.entry.process act.entry.depth act.entry.request.now }
 {
@@ -152,7 +153,7 @@ fn of_failure(failure: Option<Exception>) -> Verdict
     }
 }
 
-/// WAIT stands there.
+/// The operand is WAIT.
 fn says_wait(operands: &[Operand], k: usize) -> bool
     ensures { result ≡ says_wait operands.now k }
 {
@@ -160,7 +161,7 @@ fn says_wait(operands: &[Operand], k: usize) -> bool
 }
 
 /// A lock that is not granted, and a message that is not there, may be waited for.
-#[tactic(auto, unfolding(s38_rules::specs::Verdict::may_wait))]
+#[tactic(auto, unfolding(s38_rules::specs::step::Verdict::may_wait))]
 fn may_wait(op: Op, operands: &[Operand], id: u16) -> bool
     ensures { result ≡ may_wait op operands.now id }
 {
@@ -183,7 +184,7 @@ fn unless_last(is_last: bool) -> Verdict
 }
 
 /// What becomes of a request that fails so.
-#[tactic(auto, unfolding(s38_rules::specs::Verdict::of_request))]
+#[tactic(auto, unfolding(s38_rules::specs::step::Verdict::of_request))]
 pub fn of_request(
     world: &Core<Objects, Profiles>,
     process: u32,
@@ -224,7 +225,7 @@ pub fn start_verdict(
 
 /// What the rules make of an event of a process that doesn't wait: a start waits for the earlier stages; an instruction
 /// is refused by the first rule that fails, or waits; an end never.
-#[tactic(auto, unfolding(s38_rules::specs::Verdict::ruled_verdict))]
+#[tactic(auto, unfolding(s38_rules::specs::step::Verdict::ruled_verdict))]
 fn ruled_verdict(world: &Core<Objects, Profiles>, process: u32, event: &Event) -> Verdict
     ensures { result ≡ ruled_verdict world.now process event.now }
 {
@@ -244,7 +245,7 @@ fn ruled_verdict(world: &Core<Objects, Profiles>, process: u32, event: &Event) -
 
 /// What becomes of an event of a process that doesn't wait: what the rules make of it, and where they permit it, whether the
 /// store has room for what it keeps.
-#[tactic(auto, unfolding(s38_rules::specs::Step::awake_verdict))]
+#[tactic(auto, unfolding(s38_rules::specs::step::Step::awake_verdict))]
 pub fn awake_verdict(world: &Core<Objects, Profiles>, process: u32, event: &Event) -> Verdict
     requires { FitsStore world.now }
     ensures { result ≡ awake_verdict world.now process event.now }
@@ -254,7 +255,7 @@ pub fn awake_verdict(world: &Core<Objects, Profiles>, process: u32, event: &Even
 }
 
 /// What becomes of an event; a process that waits goes on waiting.
-#[tactic(auto, unfolding(s38_rules::specs::Step::verdict_of))]
+#[tactic(auto, unfolding(s38_rules::specs::step::Step::verdict_of))]
 pub fn verdict_of(world: &Core<Objects, Profiles>, process: u32, event: &Event) -> Verdict
     requires { FitsStore world.now }
     ensures { result ≡ verdict_of world.now process event.now }

@@ -2,15 +2,15 @@
 use Rattle.std.specs.Prelude.{ℕ, ◌+◌, ◌-◌, ◌*◌, ◌/◌, ◌%◌, Bool, ◌&&◌, ◌||◌, ◌==◌, List, map, take, drop, length, slice_index, Option, Some, None, nat_le, if◌then◌else◌}
 use Rattle.std.specs.List.{list_all, range_with_len}
 use Rattle.std.specs.Option.{option_map, option_and_then}
-use Rattle.s38_base.specs.Scalar.{digit_at, image_of}
+use Rattle.s38_base.specs.Scalar.{digit_at, scalar_image}
 use Rattle.s38_base.specs.declared.attr.Attr.TheVariants.{Packed, Chars}
-use Rattle.s38_words.specs.Number.{number_of}
-use Rattle.s38_words.specs.Text.{is_letter, is_digit, are_hex_digits, hex_byte}
+use Rattle.s38_words.specs.Number.{number_spelled}
+use Rattle.s38_words.specs.Text.{are_hex_digits, hex_byte, is_digit, is_letter}
 use Rattle.s38_code.specs.declared.program.Arg.{Arg}
 use Rattle.s38_code.specs.declared.program.Arg.TheVariants.{Literal}
 use Rattle.s38_words.specs.declared.numbers.Numeral.{Numeral}
 
--- what stands between a quote that begins the text and a quote that ends it
+-- what is between a quote that begins the text and a quote that ends it
 abbrev pub quoted : List ℕ → Option (List ℕ)
 quoted text =
     if nat_le 2 (length text) && ((slice_index text 0 == 39) && (slice_index text (length text - 1) == 39))
@@ -38,7 +38,7 @@ abbrev pub hex_bytes : List ℕ → Option (List ℕ)
 hex_bytes digits =
     if is_hex_text digits then Some (map (spelled_byte digits) (range_with_len 0 (length digits / 2))) else None
 
--- the bytes that a text literal spells; an X stands before the quote of hexadecimal digits
+-- the bytes that a text literal spells; an X comes before the quote of hexadecimal digits
 unfoldable pub text_of : List ℕ → Option (List ℕ)
 text_of text =
     if slice_index text 0 == 88
@@ -60,8 +60,8 @@ packed_with h number sign k =
 
 -- a packed number of as many digits as are written
 abbrev pub packed_number : Numeral → Arg
-packed_number n = Literal (Packed n.digits n.fraction) (image_of (Packed n.digits n.fraction) n.units)
+packed_number n = Literal (Packed n.digits n.fraction) (scalar_image (Packed n.digits n.fraction) n.units)
 
 -- a numeric literal as an operand
 unfoldable pub number_literal : List ℕ → Option Arg
-number_literal text = option_map packed_number (number_of text)
+number_literal text = option_map packed_number (number_spelled text)

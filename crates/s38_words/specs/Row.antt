@@ -5,7 +5,7 @@ use Rattle.std.specs.Option.{option_map, option_and_then}
 use Rattle.s38_base.specs.Relations.{relation_word}
 use Rattle.s38_base.specs.RightNames as rights
 use Rattle.s38_base.specs.declared.words.Relation.TheVariants.{Eq, Ne, Lo, Hi, Nl, Nh, Any, First, Last}
-use Rattle.s38_words.specs.Text.{is_word, before, behind}
+use Rattle.s38_words.specs.Text.{after_byte, before, is_word}
 use Rattle.s38_words.specs.declared.row_words.StarWord.{StarWord}
 use Rattle.s38_words.specs.declared.row_words.StarWord.TheVariants.{NoObject, MachineContext, ContextList, Public}
 
@@ -23,7 +23,7 @@ right_name bit =
     else (if bit == rights.delete then codes "DELETE"
     else codes "UPDATE"))))))
 
--- the bits that a text names, where the first of them stands first and the rest behind a +
+-- the bits that a text names: one bit, and where a + follows it, the bits of the rest
 abbrev pub with_bit : ℕ → Option (List ℕ) → (List ℕ → Option ℕ) → Option ℕ
 with_bit bit None more = Some bit
 with_bit bit (Some rest) more = option_map (λ bits. bit_or bit bits) (more rest)
@@ -33,7 +33,7 @@ abbrev pub rights_from : List ℕ → List ℕ → Option ℕ
 rights_from [] text = None
 rights_from (bit ∷ bits) text =
     if is_word (right_name bit) (before 43 text)
-    then with_bit bit (behind 43 text) (λ rest. rights_from bits rest)
+    then with_bit bit (after_byte 43 text) (λ rest. rights_from bits rest)
     else rights_from bits text
 
 abbrev pub right_bits : List ℕ
@@ -44,8 +44,8 @@ right_bits =
 abbrev pub not_all : ℕ → Option ℕ
 not_all bits = if bits == rights.all_rights then None else Some bits
 
-unfoldable pub rights_of : List ℕ → Option ℕ
-rights_of word =
+unfoldable pub rights_spelled : List ℕ → Option ℕ
+rights_spelled word =
     if is_word (codes "NONE") word then Some rights.no_rights
     else (if is_word (codes "ALL") word then Some rights.all_rights
     else option_and_then not_all (rights_from right_bits word))
@@ -71,8 +71,8 @@ abbrev pub wait_of : List ℕ → Option ℕ
 wait_of word =
     if is_word (codes "NOWAIT") word then Some 0 else (if is_word (codes "WAIT") word then Some 1 else None)
 
-unfoldable pub relation_of : List ℕ → Option ℕ
-relation_of word =
+unfoldable pub relation_spelled : List ℕ → Option ℕ
+relation_spelled word =
     if is_word (codes "EQ") word then Some (relation_word Eq)
     else (if is_word (codes "NE") word then Some (relation_word Ne)
     else (if is_word (codes "LO") word then Some (relation_word Lo)
@@ -83,14 +83,14 @@ relation_of word =
     else (if is_word (codes "FIRST") word then Some (relation_word First)
     else (if is_word (codes "LAST") word then Some (relation_word Last) else None))))))))
 
-abbrev pub order_of : List ℕ → Option ℕ
-order_of word =
+abbrev pub order_spelled : List ℕ → Option ℕ
+order_spelled word =
     if is_word (codes "FIFO") word then Some 0
     else (if is_word (codes "LIFO") word then Some 1
     else (if is_word (codes "KEYED") word then Some 2 else None))
 
-abbrev pub seek_of : List ℕ → Option ℕ
-seek_of word =
+abbrev pub seek_spelled : List ℕ → Option ℕ
+seek_spelled word =
     if is_word (codes "FIRST") word then Some 0
     else (if is_word (codes "LAST") word then Some 1
     else (if is_word (codes "NEXT") word then Some 2

@@ -1,9 +1,9 @@
 ghost use Rattle.std.specs.Prelude.{◌≡◌, ◌^◌, ◌<◌, ◌≤◌, [], IfOk, IfSome, map};
 ghost use Rattle.std.specs.Option.{option_map};
-ghost use Rattle.s38_words.specs.Attribute.{attr_of, attrs_from, attrs_of, decimal_size, field_of, parts, sized};
+ghost use Rattle.s38_words.specs.Attribute.{attr_spelled, attrs_from, attrs_of, decimal_size, field_of, parts, sized};
 
 use crate::numbers::natural;
-use crate::texts::{before, behind, is_word};
+use crate::texts::{after_byte, before, is_word};
 use s38_base::{Attr, AttrList, NoMemory, Seq};
 use std::alloc::{AllocError, Global};
 
@@ -27,12 +27,12 @@ fn field(text: &[u8]) -> Option<u16>
     }
 }
 
-/// Digits, and how many of them stand behind the point.
+/// Digits, and how many of them are after the point.
 fn decimal_size(text: &[u8]) -> Option<(u8, u8)>
     ensures { result ≡ decimal_size text.now }
 {
     let digits = small_field(before(b':', text))?;
-    let fraction = small_field(behind(b':', text)?)?;
+    let fraction = small_field(after_byte(b':', text)?)?;
     Some((digits, fraction))
 }
 
@@ -55,10 +55,10 @@ fn sized(kind: &[u8], size: &[u8]) -> Option<Attr>
 }
 
 /// The attribute that a word spells: PKD:d:f, ZND:d:f, BIN:2, BIN:4, CHAR:n or PTR. A number that is too large
-/// for its field stands there as the largest, which is out of bounds as it is.
-#[tactic(auto, unfolding(crate::specs::Attribute::attr_of))]
+/// for its field is taken as the largest, which is out of bounds as it is.
+#[tactic(auto, unfolding(crate::specs::Attribute::attr_spelled))]
 pub fn attribute(word: &[u8]) -> Option<Attr>
-    ensures { result ≡ attr_of word.now }
+    ensures { result ≡ attr_spelled word.now }
 {
     if is_word(b"PTR", word) {
         return Some(Attr::Pointer);
@@ -69,7 +69,7 @@ pub fn attribute(word: &[u8]) -> Option<Attr>
     if is_word(b"BIN:4", word) {
         return Some(Attr::Binary { size: 4 });
     }
-    match behind(b':', word) {
+    match after_byte(b':', word) {
         Some(size) => sized(before(b':', word), size),
         None => None,
     }

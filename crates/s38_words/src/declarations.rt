@@ -1,13 +1,13 @@
 ghost use Rattle.std.specs.Prelude.{◌≡◌, is_some};
 ghost use Rattle.std.specs.Option.{option_map};
-ghost use Rattle.s38_words.specs.DeclarationLine.{based_of, behind_dcl, behind_init, count_of, declaration_of, declaration_behind, declares_of, description_of, initial_of, is_in_range, is_initial, is_literal, parameter_of, taken_of, variable_from};
-ghost use Rattle.s38_words.specs.Attribute.{attr_of};
+ghost use Rattle.s38_words.specs.DeclarationLine.{after_dcl, after_init, based_of, count_spelled, declaration_after_dcl, declaration_of, declares_of, description_of, initial_of, is_in_range, is_initial, is_literal, parameter_of, taken_of, variable_from};
+ghost use Rattle.s38_words.specs.Attribute.{attr_spelled};
 
 use crate::attribute_words::attribute;
 use crate::literals::is_text;
 use crate::names::{declared_name, exception_code};
 use crate::numbers::{natural, number};
-use crate::texts::{before, behind, is_word, parted, rest_after};
+use crate::texts::{after_byte, before, is_word, parted, rest_after};
 use s38_base::{Attr, Name};
 
 /// What a line declares its name to be.
@@ -17,7 +17,7 @@ pub enum Declares {
     Variable { attr: Attr },
     /// The variable that the caller passes at place k.
     Parameter { k: u64, attr: Attr },
-    /// An item in a space, so far behind the pointer in another item.
+    /// An item in a space, at an offset from the pointer in another item.
     BasedItem { base: Name, offset: u64, attr: Attr },
     /// A description of an exception (None: of each), and the label where it goes on.
     Description { code: Option<u16>, label: Name },
@@ -37,8 +37,8 @@ fn is_literal(text: &[u8]) -> bool
     number(text).is_some() || is_text(text)
 }
 
-fn behind_init(text: &[u8]) -> Option<&[u8]>
-    ensures { option_map (λ rest. rest.now) result ≡ behind_init text.now }
+fn after_init(text: &[u8]) -> Option<&[u8]>
+    ensures { option_map (λ rest. rest.now) result ≡ after_init text.now }
 {
     rest_after(b"INIT ", text)
 }
@@ -47,16 +47,16 @@ fn behind_init(text: &[u8]) -> Option<&[u8]>
 fn is_initial(text: &[u8]) -> bool
     ensures { result ≡ is_initial text.now }
 {
-    match behind_init(text) {
+    match after_init(text) {
         Some(literal) => is_literal(literal),
         None => false,
     }
 }
 
-/// What a text declares that is this word and what stands behind it.
+/// What a text declares that is this word and what comes after it.
 #[inline(always)]
 fn variable(word: &[u8], rest: Option<&[u8]>) -> Option<Declares>
-    ensures { result ≡ variable_from (attr_of word.now) (option_map (λ r. r.now) rest.entry) }
+    ensures { result ≡ variable_from (attr_spelled word.now) (option_map (λ r. r.now) rest.entry) }
 {
     let attr = attribute(word)?;
     match rest {
@@ -73,7 +73,7 @@ fn parameter(text: &[u8]) -> Option<Declares>
     ensures { result ≡ parameter_of text.now }
 {
     let k = natural(before(b' ', text))?;
-    let attr = attribute(behind(b' ', text)?)?;
+    let attr = attribute(after_byte(b' ', text)?)?;
     Some(Declares::Parameter { k, attr })
 }
 
@@ -81,9 +81,9 @@ fn based(text: &[u8]) -> Option<Declares>
     ensures { result ≡ based_of text.now }
 {
     let base = declared_name(before(b' ', text))?;
-    let rest = behind(b' ', text)?;
+    let rest = after_byte(b' ', text)?;
     let offset = natural(before(b' ', rest))?;
-    let attr = attribute(behind(b' ', rest)?)?;
+    let attr = attribute(after_byte(b' ', rest)?)?;
     Some(Declares::BasedItem { base, offset, attr })
 }
 
@@ -104,7 +104,7 @@ fn description(text: &[u8]) -> Option<Declares>
     ensures { result ≡ description_of text.now }
 {
     let code = taken(before(b' ', text))?;
-    let label = declared_name(behind(b' ', text)?)?;
+    let label = declared_name(after_byte(b' ', text)?)?;
     Some(Declares::Description { code, label })
 }
 
@@ -125,8 +125,8 @@ fn what_is_declared(text: &[u8]) -> Option<Declares>
     variable(word, rest)
 }
 
-fn declaration_behind(text: &[u8]) -> Option<DeclarationLine>
-    ensures { result ≡ declaration_behind text.now }
+fn declaration_after_dcl(text: &[u8]) -> Option<DeclarationLine>
+    ensures { result ≡ declaration_after_dcl text.now }
 {
     let (word, rest) = parted(b' ', text);
     let name = declared_name(word)?;
@@ -134,17 +134,17 @@ fn declaration_behind(text: &[u8]) -> Option<DeclarationLine>
     Some(DeclarationLine { name, declares })
 }
 
-fn behind_dcl(line: &[u8]) -> Option<&[u8]>
-    ensures { option_map (λ rest. rest.now) result ≡ behind_dcl line.now }
+fn after_dcl(line: &[u8]) -> Option<&[u8]>
+    ensures { option_map (λ rest. rest.now) result ≡ after_dcl line.now }
 {
     rest_after(b"DCL ", line)
 }
 
 /// Whether a line begins as a declaration.
 pub fn is_declaration(line: &[u8]) -> bool
-    ensures { result ≡ is_some (behind_dcl line.now) }
+    ensures { result ≡ is_some (after_dcl line.now) }
 {
-    behind_dcl(line).is_some()
+    after_dcl(line).is_some()
 }
 
 /// What a line declares; None exactly where it has no form of a declaration. Bounds of attributes and ranges
@@ -153,8 +153,8 @@ pub fn is_declaration(line: &[u8]) -> bool
 pub fn declaration(line: &[u8]) -> Option<DeclarationLine>
     ensures { result ≡ declaration_of line.now }
 {
-    match behind_dcl(line) {
-        Some(text) => declaration_behind(text),
+    match after_dcl(line) {
+        Some(text) => declaration_after_dcl(text),
         None => None,
     }
 }
@@ -164,10 +164,10 @@ pub fn declaration(line: &[u8]) -> Option<DeclarationLine>
 pub fn initial(line: &[u8]) -> Option<&[u8]>
     ensures { option_map (λ literal. literal.now) result ≡ initial_of line.now }
 {
-    let text = behind_dcl(line)?;
-    let declared = behind(b' ', text)?;
-    let rest = behind(b' ', declared)?;
-    behind_init(rest)
+    let text = after_dcl(line)?;
+    let declared = after_byte(b' ', text)?;
+    let rest = after_byte(b' ', declared)?;
+    after_init(rest)
 }
 
 /// Whether the numbers of a line are in their ranges: a parameter's place is 1 to 16, and an offset is at

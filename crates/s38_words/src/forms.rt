@@ -1,5 +1,5 @@
 ghost use Rattle.std.specs.Prelude.{◌≡◌, IsTrue};
-ghost use Rattle.s38_words.specs.Form.{are_attributes, has_form, is_plain, is_special};
+ghost use Rattle.s38_words.specs.Form.{are_attributes, has_form, is_plain, is_special_word};
 
 use crate::attribute_words::attribute;
 use crate::literals::is_text;
@@ -24,7 +24,7 @@ fn is_plain(word: &[u8]) -> bool
 
 /// Rights, specials, a word with a star, or the number of an exception.
 fn is_special(word: &[u8]) -> bool
-    ensures { result ≡ is_special word.now }
+    ensures { result ≡ is_special_word word.now }
 {
     rights(word).is_some()
         || specials(word).is_some()
@@ -45,7 +45,7 @@ fn is_starred_or_quoted(word: &[u8]) -> bool
 }
 
 /// Whether some operand of some instruction may be written so: as a name, a literal, an identification,
-/// attributes or a word. Whether it is what stands at its place is another question.
+/// attributes or a word. Whether it is what its place asks for is another question.
 #[tactic(auto, unfolding(crate::specs::Form::has_form))]
 pub fn has_form(word: &[u8]) -> bool
     ensures { result ≡ has_form word.now }

@@ -28,4 +28,4 @@ pub use right_words::rights;
 pub use row_words::{
     StarWord, lock_state, order, pointer_kind, relation, seek, specials, star, switch, wait,
 };
-pub use texts::{before, behind, is_word, parted, place_of, rest_after};
+pub use texts::{after_byte, before, is_word, parted, place_of, rest_after};

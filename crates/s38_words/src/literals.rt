@@ -11,7 +11,7 @@ use s38_base::{Attr, Bytes, NoMemory};
 use s38_code::Arg;
 use std::alloc::Global;
 
-/// What stands between a quote that begins the text and a quote that ends it.
+/// What is between a quote that begins the text and a quote that ends it.
 fn quoted(text: &[u8]) -> Option<&[u8]>
     ensures { option_map (λ inner. inner.now) result ≡ quoted text.now }
 {
@@ -151,7 +151,7 @@ pub fn text_literal(alloc: Global, text: &[u8]) -> Result<Option<Arg>, NoMemory>
     }))
 }
 
-/// The digit of a number that has k digits behind it.
+/// The digit of a number that has k digits after it.
 fn digit_at(number: u128, k: u8) -> u8
     requires { k ≤ 31 }
     ensures value { result ≡ digit_at 10 number k }
@@ -188,7 +188,7 @@ fn packed(alloc: Global, number: u128, sign: u8, last: u8) -> Result<Bytes, NoMe
 }
 
 /// The operand that a numeric literal is: a packed number of as many digits as are written.
-#[tactic(auto, unfolding(crate::specs::Literal::number_literal, s38_base::specs::Scalar::image_of, s38_base::specs::Scalar::fits))]
+#[tactic(auto, unfolding(crate::specs::Literal::number_literal, s38_base::specs::Scalar::scalar_image, s38_base::specs::Scalar::fits))]
 pub fn number_literal(alloc: Global, text: &[u8]) -> Result<Option<Arg>, NoMemory>
     ensures { IfOk result (λ literal. literal ≡ number_literal text.now) }
 {

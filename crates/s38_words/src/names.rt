@@ -1,7 +1,7 @@
 ghost use Rattle.std.specs.Prelude.{◌≡◌};
-ghost use Rattle.s38_words.specs.Name.{begins_with_letter, code_of, declared_name, id_of, kind_of, object_name, subtype_of};
+ghost use Rattle.s38_words.specs.Name.{begins_with_letter, declared_name, exception_code_of, id_spelled, kind_spelled, object_name, subtype_of};
 
-use crate::texts::{are_hex_digits, before, behind, hex_byte, is_letter, is_word};
+use crate::texts::{after_byte, are_hex_digits, before, hex_byte, is_letter, is_word};
 use s38_base::{Id, Kind, Name};
 
 /// The name of an object or of a user that a text is: 1 to 30 of A to Z and 0 to 9.
@@ -31,9 +31,9 @@ pub fn declared_name(text: &[u8]) -> Option<Name>
     }
 }
 
-#[tactic(auto, unfolding(crate::specs::Name::kind_of))]
+#[tactic(auto, unfolding(crate::specs::Name::kind_spelled))]
 fn kind(word: &[u8]) -> Option<Kind>
-    ensures { result ≡ kind_of word.now }
+    ensures { result ≡ kind_spelled word.now }
 {
     if is_word(b"CONTEXT", word) {
         Some(Kind::Context)
@@ -72,20 +72,20 @@ fn subtype(word: &[u8]) -> Option<u8>
 }
 
 /// The identification that a word spells: a kind, two hexadecimal digits and a name, parted by `/`.
-#[tactic(auto, unfolding(crate::specs::Name::id_of))]
+#[tactic(auto, unfolding(crate::specs::Name::id_spelled))]
 pub fn identification(word: &[u8]) -> Option<Id>
-    ensures { result ≡ id_of word.now }
+    ensures { result ≡ id_spelled word.now }
 {
-    let rest = behind(b'/', word)?;
+    let rest = after_byte(b'/', word)?;
     let kind = kind(before(b'/', word))?;
     let sub = subtype(before(b'/', rest))?;
-    let name = object_name(behind(b'/', rest)?)?;
+    let name = object_name(after_byte(b'/', rest)?)?;
     Some(Id { kind, sub, name })
 }
 
 /// The number of an exception that four hexadecimal digits spell.
 pub fn exception_code(word: &[u8]) -> Option<u16>
-    ensures { result ≡ code_of word.now }
+    ensures { result ≡ exception_code_of word.now }
 {
     if word.len() == 4 && are_hex_digits(word) {
         let high = u16::from(hex_byte(word[0], word[1]));

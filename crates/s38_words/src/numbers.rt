@@ -2,15 +2,15 @@ ghost use Rattle.std.specs.Prelude.{◌≡◌, ◌+◌, ◌-◌, ◌^◌, ◌<�
 ghost use Rattle.std.specs.Option.{option_map};
 ghost use Rattle.s38_base.specs.Scalar.{fits, with_minus};
 ghost use Rattle.s38_base.specs.declared.attr.Attr.{Attr};
-ghost use Rattle.s38_words.specs.Number.{are_digits, digits_behind, has_minus, held, is_fraction, is_number, is_numeral, is_signed_whole, is_whole, natural_of, number_from, number_of, unsigned_number, value_behind, value_of_digits, whole_of, without_minus};
+ghost use Rattle.s38_words.specs.Number.{are_digits, capped, fraction_digits, has_minus, is_fraction, is_number, is_numeral, is_signed_whole, is_whole_number, natural_of, number_spelled, numeral_from, unsigned_number, value_after, value_of_digits, whole_spelled, without_minus};
 
-use crate::texts::{before, behind, is_digit};
+use crate::texts::{after_byte, before, is_digit};
 
 /// The most digits of a literal.
 const MOST_DIGITS: usize = 31;
 
 /// A number as it is written: all its digits as one whole number, how many digits there are, and how many of
-/// them stand behind the point.
+/// them are after the point.
 #[derive(Clone, Copy, PartialEq, Eq, Debug)]
 pub struct Numeral {
     pub units: i128,
@@ -33,15 +33,15 @@ fn is_numeral(text: &[u8]) -> bool
 
 /// Digits without a leading zero.
 fn is_whole(text: &[u8]) -> bool
-    ensures { result ≡ is_whole text.now }
+    ensures { result ≡ is_whole_number text.now }
 {
     is_numeral(text) && (text.len() == 1 || text[0] != b'0')
 }
 
 /// The number that digits write where they follow those of another, or the largest number where it is too large.
-fn value_behind(start: u128, digits: &[u8]) -> u128
+fn value_after(start: u128, digits: &[u8]) -> u128
     requires { IsTrue (are_digits digits.now) }
-    ensures { result ≡ held (2 ^ 128 - 1) (value_behind start digits.now) }
+    ensures { result ≡ capped (2 ^ 128 - 1) (value_after start digits.now) }
 {
     let mut value = start;
     for digit in digits {
@@ -56,10 +56,10 @@ fn value_behind(start: u128, digits: &[u8]) -> u128
 /// largest. None where the text is not such digits.
 #[tactic(auto, unfolding(crate::specs::Number::natural_of))]
 pub fn natural(text: &[u8]) -> Option<u64>
-    ensures { result ≡ option_map (held (2 ^ 64 - 1)) (natural_of text.now) }
+    ensures { result ≡ option_map (capped (2 ^ 64 - 1)) (natural_of text.now) }
 {
     if is_whole(text) {
-        Some(value_behind(0, text).min(u128::from(u64::MAX)) as u64)
+        Some(value_after(0, text).min(u128::from(u64::MAX)) as u64)
     } else {
         None
     }
@@ -92,14 +92,14 @@ pub fn signed(minus: bool, number: u128) -> i128
     }
 }
 
-/// The number that a whole literal writes: at most 31 digits without a leading zero, perhaps behind a minus.
-#[tactic(auto, unfolding(crate::specs::Number::whole_of))]
+/// The number that a whole literal writes: at most 31 digits without a leading zero, perhaps after a minus.
+#[tactic(auto, unfolding(crate::specs::Number::whole_spelled))]
 pub fn whole(text: &[u8]) -> Option<i128>
-    ensures { result ≡ whole_of text.now }
+    ensures { result ≡ whole_spelled text.now }
 {
     let digits = without_minus(text);
     if is_whole(digits) && digits.len() <= MOST_DIGITS {
-        Some(signed(has_minus(text), value_behind(0, digits)))
+        Some(signed(has_minus(text), value_after(0, digits)))
     } else {
         None
     }
@@ -114,8 +114,8 @@ fn is_fraction(back: Option<&[u8]>) -> bool
     }
 }
 
-fn digits_behind(back: Option<&[u8]>) -> &[u8]
-    ensures { result.now ≡ digits_behind (option_map (λ digits. digits.now) back.entry) }
+fn fraction_digits(back: Option<&[u8]>) -> &[u8]
+    ensures { result.now ≡ fraction_digits (option_map (λ digits. digits.now) back.entry) }
 {
     match back {
         None => &[],
@@ -123,24 +123,24 @@ fn digits_behind(back: Option<&[u8]>) -> &[u8]
     }
 }
 
-/// Digits stand before the point and behind it, 31 at most.
+/// Digits come before the point and after it, 31 at most.
 fn is_number(front: &[u8], back: Option<&[u8]>) -> bool
     ensures { result ≡ is_number front.now (option_map (λ digits. digits.now) back.entry) }
 {
     is_numeral(front)
         && is_fraction(back)
         && front.len() <= MOST_DIGITS
-        && digits_behind(back).len() <= MOST_DIGITS - front.len()
+        && fraction_digits(back).len() <= MOST_DIGITS - front.len()
 }
 
-/// The number of these digits, some before the point and some behind it.
+/// The number of these digits, some before the point and some after it.
 fn number_from(minus: bool, front: &[u8], back: &[u8]) -> Numeral
     requires front { IsTrue (are_digits front.now) }
     requires back { IsTrue (are_digits back.now) }
     requires few { length front.now + length back.now ≤ 31 }
-    ensures { result ≡ number_from minus front.now back.now }
+    ensures { result ≡ numeral_from minus front.now back.now }
 {
-    let units = value_behind(value_behind(0, front), back);
+    let units = value_after(value_after(0, front), back);
     Numeral {
         units: signed(minus, units),
         digits: (front.len() + back.len()) as u8,
@@ -152,19 +152,19 @@ fn unsigned_number(minus: bool, text: &[u8]) -> Option<Numeral>
     ensures { result ≡ unsigned_number minus text.now }
 {
     let front = before(b'.', text);
-    let back = behind(b'.', text);
+    let back = after_byte(b'.', text);
     if is_number(front, back) {
-        Some(number_from(minus, front, digits_behind(back)))
+        Some(number_from(minus, front, fraction_digits(back)))
     } else {
         None
     }
 }
 
-/// The number that a numeric literal writes: 1 to 31 digits with a point among them or none, perhaps behind a
+/// The number that a numeric literal writes: 1 to 31 digits with a point among them or none, perhaps after a
 /// minus. A packed number of so many digits holds it.
-#[tactic(auto, unfolding(crate::specs::Number::number_of))]
+#[tactic(auto, unfolding(crate::specs::Number::number_spelled))]
 pub fn number(text: &[u8]) -> Option<Numeral>
-    ensures number { result ≡ number_of text.now }
+    ensures number { result ≡ number_spelled text.now }
     ensures fits { IfSome result (λ n. IsTrue (fits (Attr.Packed n.digits n.fraction) n.units)) }
 {
     unsigned_number(has_minus(text), without_minus(text))

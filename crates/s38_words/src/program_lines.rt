@@ -1,11 +1,11 @@
 ghost use Rattle.std.specs.Prelude.{◌≡◌};
 ghost use Rattle.std.specs.Option.{option_map};
-ghost use Rattle.s38_words.specs.ProgramLine.{act_from, act_of, adoption, head_behind, head_of, label_of, rounds_right};
+ghost use Rattle.s38_words.specs.ProgramLine.{act_from, act_line_of, adoption, head_after_word, head_of, label_spelled, rounds_right};
 ghost use Rattle.s38_words.specs.Views.{act_in};
 
 use crate::names::declared_name;
 use crate::operations::operation;
-use crate::texts::{before, behind, is_word, parted, rest_after};
+use crate::texts::{after_byte, before, is_word, parted, rest_after};
 use s38_base::{Name, Op};
 use s38_code::may_round;
 
@@ -19,7 +19,7 @@ pub struct Head {
     pub propagates: bool,
 }
 
-/// An instruction's line: its operation, whether `(R)` stands behind the mnemonic, and the words of its operands.
+/// An instruction's line: its operation, whether `(R)` follows the mnemonic, and the words of its operands.
 #[derive(Clone, Copy, Debug)]
 pub struct InstructionLine<'a> {
     pub op: Op,
@@ -45,11 +45,11 @@ fn adoption(text: Option<&[u8]>) -> Option<(bool, bool)>
     }
 }
 
-fn head_behind(text: &[u8]) -> Option<Head>
-    ensures { result ≡ head_behind text.now }
+fn head_after_word(text: &[u8]) -> Option<Head>
+    ensures { result ≡ head_after_word text.now }
 {
     let name = declared_name(before(b' ', text))?;
-    let (adopts, propagates) = adoption(behind(b' ', text))?;
+    let (adopts, propagates) = adoption(after_byte(b' ', text))?;
     Some(Head {
         name,
         adopts,
@@ -63,16 +63,16 @@ pub fn program_head(line: &[u8]) -> Option<Head>
     ensures { result ≡ head_of line.now }
 {
     match rest_after(b"PROGRAM ", line) {
-        Some(text) => head_behind(text),
+        Some(text) => head_after_word(text),
         None => None,
     }
 }
 
 /// The name in a line `LABEL name`; None for every other line.
-#[tactic(auto, unfolding(crate::specs::ProgramLine::label_of))]
+#[tactic(auto, unfolding(crate::specs::ProgramLine::label_spelled))]
 #[inline(always)]
 pub fn label(line: &[u8]) -> Option<Name>
-    ensures { result ≡ label_of line.now }
+    ensures { result ≡ label_spelled line.now }
 {
     match rest_after(b"LABEL ", line) {
         Some(text) => declared_name(text),
@@ -80,7 +80,7 @@ pub fn label(line: &[u8]) -> Option<Name>
     }
 }
 
-/// The words behind a mnemonic, and the suffix before them.
+/// The words after a mnemonic, and the suffix before them.
 #[inline(always)]
 fn act_from(op: Op, text: Option<&[u8]>) -> InstructionLine<'_>
     ensures { act_in result ≡ act_from op (option_map (λ t. t.now) text.entry) }
@@ -114,10 +114,10 @@ fn act_from(op: Op, text: Option<&[u8]>) -> InstructionLine<'_>
 }
 
 /// The instruction of a line that begins with a mnemonic; None for every other line.
-#[tactic(auto, unfolding(crate::specs::ProgramLine::act_of))]
+#[tactic(auto, unfolding(crate::specs::ProgramLine::act_line_of))]
 #[inline(always)]
 pub fn instruction(line: &[u8]) -> Option<InstructionLine<'_>>
-    ensures { option_map act_in result ≡ act_of line.now }
+    ensures { option_map act_in result ≡ act_line_of line.now }
 {
     let (word, rest) = parted(b' ', line);
     match operation(word) {
@@ -126,7 +126,7 @@ pub fn instruction(line: &[u8]) -> Option<InstructionLine<'_>>
     }
 }
 
-/// `(R)` stands only where a result may be rounded.
+/// `(R)` is allowed only where a result may be rounded.
 pub fn rounds_right(round: bool, op: Op) -> bool
     ensures { result ≡ rounds_right round op }
 {

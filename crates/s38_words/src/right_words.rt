@@ -1,8 +1,8 @@
 ghost use Rattle.std.specs.Prelude.{◌≡◌};
 ghost use Rattle.std.specs.Option.{option_map};
-ghost use Rattle.s38_words.specs.Row.{right_bits, right_name, rights_from, rights_of};
+ghost use Rattle.s38_words.specs.Row.{right_bits, right_name, rights_from, rights_spelled};
 
-use crate::texts::{before, behind, is_word};
+use crate::texts::{after_byte, before, is_word};
 
 /// The bits of the rights, in the order in which a word names them.
 const RIGHT_BITS: [u8; 8] = [0x80, 0x40, 0x20, 0x10, 0x08, 0x04, 0x02, 0x01];
@@ -33,7 +33,7 @@ fn rights_from(bits: &[u8], text: &[u8]) -> Option<u8>
             if !is_word(right_name(*bit), before(b'+', text)) {
                 return rights_from(bits, text);
             }
-            match behind(b'+', text) {
+            match after_byte(b'+', text) {
                 None => Some(*bit),
                 Some(rest) => match rights_from(bits, rest) {
                     None => None,
@@ -46,9 +46,9 @@ fn rights_from(bits: &[u8], text: &[u8]) -> Option<u8>
 
 /// The bits of the rights that a word names: NONE, ALL for all eight, or the names of others in the order of
 /// their bits, each once, joined by `+`.
-#[tactic(auto, unfolding(crate::specs::Row::rights_of))]
+#[tactic(auto, unfolding(crate::specs::Row::rights_spelled))]
 pub fn rights(word: &[u8]) -> Option<u8>
-    ensures { result ≡ rights_of word.now }
+    ensures { result ≡ rights_spelled word.now }
 {
     if is_word(b"NONE", word) {
         return Some(0);

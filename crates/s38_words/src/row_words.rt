@@ -1,9 +1,9 @@
 ghost use Rattle.std.specs.Prelude.{◌≡◌, ◌<◌};
-ghost use Rattle.s38_words.specs.Row.{lock_state_of, order_of, pointer_kind_of, relation_of, seek_of, specials_of, star_of, switch_of, wait_of};
+ghost use Rattle.s38_words.specs.Row.{lock_state_of, order_spelled, pointer_kind_of, relation_spelled, seek_spelled, specials_of, star_of, switch_of, wait_of};
 
 use crate::texts::is_word;
 
-/// What a word with a star stands for.
+/// What a word with a star means.
 #[derive(Clone, Copy, PartialEq, Eq, Debug)]
 pub enum StarWord {
     /// `*NONE`
@@ -66,9 +66,9 @@ pub fn wait(word: &[u8]) -> Option<u32>
 }
 
 /// The number of a relation: EQ, NE, LO, HI, NL, NH, ANY, FIRST and LAST are 0 to 8.
-#[tactic(auto, unfolding(crate::specs::Row::relation_of))]
+#[tactic(auto, unfolding(crate::specs::Row::relation_spelled))]
 pub fn relation(word: &[u8]) -> Option<u32>
-    ensures { result ≡ relation_of word.now }
+    ensures { result ≡ relation_spelled word.now }
 {
     if is_word(b"EQ", word) {
         Some(0)
@@ -95,7 +95,7 @@ pub fn relation(word: &[u8]) -> Option<u32>
 
 /// The number of a queue's order: FIFO, LIFO and KEYED are 0 to 2.
 pub fn order(word: &[u8]) -> Option<u32>
-    ensures { result ≡ order_of word.now }
+    ensures { result ≡ order_spelled word.now }
 {
     if is_word(b"FIFO", word) {
         Some(0)
@@ -110,7 +110,7 @@ pub fn order(word: &[u8]) -> Option<u32>
 
 /// The number of the word that says where a cursor goes: FIRST, LAST, NEXT, PREV and AT are 0 to 4.
 pub fn seek(word: &[u8]) -> Option<u32>
-    ensures { result ≡ seek_of word.now }
+    ensures { result ≡ seek_spelled word.now }
 {
     if is_word(b"FIRST", word) {
         Some(0)
@@ -157,7 +157,7 @@ pub fn switch(word: &[u8]) -> Option<u32>
     }
 }
 
-/// What a word with a star stands for: *NONE, *MACHINE, *LIST or *PUBLIC.
+/// What a word with a star means: *NONE, *MACHINE, *LIST or *PUBLIC.
 pub fn star(word: &[u8]) -> Option<StarWord>
     ensures { result ≡ star_of word.now }
 {

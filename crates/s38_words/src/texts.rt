@@ -1,7 +1,7 @@
 ghost use Rattle.std.specs.Prelude.{◌≡◌, ◌≤◌, ◌<◌, length, IsTrue, IfSome, nat_eq};
 ghost use Rattle.std.specs.List.{starts_with};
 ghost use Rattle.std.specs.Option.{option_map};
-ghost use Rattle.s38_words.specs.Text.{are_hex_digits, before, behind, hex_byte, hex_value, is_digit, is_hex_digit, is_letter, is_word, place_of, rest_after};
+ghost use Rattle.s38_words.specs.Text.{after_byte, are_hex_digits, before, hex_byte, hex_digit_value, is_digit, is_hex_digit, is_letter, is_word, place_of, rest_after};
 
 /// Whether two texts that both have a first byte begin with the same one.
 #[inline(always)]
@@ -23,7 +23,7 @@ pub fn is_word(word: &[u8], text: &[u8]) -> bool
     begin_alike(word, text) && text == word
 }
 
-/// Where the first such byte stands; None where there is none.
+/// Where the first such byte is; None where there is none.
 #[inline(always)]
 pub fn place_of(byte: u8, text: &[u8]) -> Option<usize>
     ensures place { result ≡ place_of byte text.now }
@@ -32,7 +32,7 @@ pub fn place_of(byte: u8, text: &[u8]) -> Option<usize>
     text.iter().position(|b| *b == byte)
 }
 
-/// What stands before the first such byte, or all where there is none.
+/// What comes before the first such byte, or all where there is none.
 pub fn before(byte: u8, text: &[u8]) -> &[u8]
     ensures { result.now ≡ before byte text.now }
 {
@@ -42,9 +42,9 @@ pub fn before(byte: u8, text: &[u8]) -> &[u8]
     }
 }
 
-/// What stands behind the first such byte; None where there is none.
-pub fn behind(byte: u8, text: &[u8]) -> Option<&[u8]>
-    ensures { option_map (λ rest. rest.now) result ≡ behind byte text.now }
+/// What comes after the first such byte; None where there is none.
+pub fn after_byte(byte: u8, text: &[u8]) -> Option<&[u8]>
+    ensures { option_map (λ rest. rest.now) result ≡ after_byte byte text.now }
 {
     match place_of(byte, text) {
         Some(at) => Some(&text[at + 1..]),
@@ -52,11 +52,11 @@ pub fn behind(byte: u8, text: &[u8]) -> Option<&[u8]>
     }
 }
 
-/// What stands before the first such byte, or all where there is none, and what stands behind it.
+/// What comes before the first such byte, or all where there is none, and what comes after it.
 #[inline(always)]
 pub fn parted(byte: u8, text: &[u8]) -> (&[u8], Option<&[u8]>)
     ensures front { result.0.now ≡ before byte text.now }
-    ensures back { option_map (λ rest. rest.now) result.1 ≡ behind byte text.now }
+    ensures back { option_map (λ rest. rest.now) result.1 ≡ after_byte byte text.now }
 {
     match place_of(byte, text) {
         Some(at) => (&text[..at], Some(&text[at + 1..])),
@@ -73,7 +73,7 @@ fn may_begin(front: &[u8], text: &[u8]) -> bool
     front.len() <= text.len() && begin_alike(front, text)
 }
 
-/// What stands behind these bytes; None where the text does not begin with them.
+/// What comes after these bytes; None where the text does not begin with them.
 #[inline(always)]
 pub fn rest_after<'a>(front: &[u8], text: &'a [u8]) -> Option<&'a [u8]>
     ensures { option_map (λ rest. rest.now) result ≡ rest_after front.now text.now }
@@ -112,7 +112,7 @@ pub fn are_hex_digits(text: &[u8]) -> bool
 
 fn hex_value(digit: u8) -> u8
     requires { IsTrue (is_hex_digit digit) }
-    ensures value { result ≡ hex_value digit }
+    ensures value { result ≡ hex_digit_value digit }
     ensures small { result ≤ 15 }
 {
     if digit <= b'9' {

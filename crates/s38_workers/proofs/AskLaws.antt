@@ -8,7 +8,8 @@ use Rattle.s38_code.specs.declared.reply.Reply.TheVariants.{MustWait}
 use Rattle.s38_code.specs.declared.step.StepFault.{StepFault}
 use Rattle.s38_code.specs.declared.step.StepFault.TheVariants as faults
 use Rattle.s38_process.specs.declared.status.Status.TheVariants.{Ended}
-use Rattle.s38_process.specs.Process.{ProcessState, RanFrom, absorbed, behind, event_of}
+use Rattle.s38_process.specs.Process.{ProcessState, event_of}
+use Rattle.s38_process.specs.AfterReply.{RanFrom, absorbed, process_after}
 use Rattle.s38_turn.specs.declared.item.Item.{Item}
 use Rattle.s38_turn.specs.declared.item.Item.TheVariants.{Stopped}
 use Rattle.s38_turn.specs.declared.view.ProcessList.{ProcessList}
@@ -48,14 +49,14 @@ module _ (Halted : Type 0) (p : ℕ) (event : Event) (old : List Item) (d : Proc
     by_program = subst (λ zs. RanFrom d (entries_in zs)) (sym e) (asks, tt);
     noted = subst (NotedFrom d) (sym e) tt;
     now = now;
-    stands = goes ∙ sym (ap (λ zs. behind d (entries_in zs)) e);
+    stands = goes ∙ sym (ap (λ zs. process_after d (entries_in zs)) e);
   }
   went_ok reply added d' (Ok heard) done now (inr w) goes waits = record {
     added = added;
     by_program = subst (λ zs. RanFrom d (entries_in zs)) (sym w.1) tt;
     noted = subst (NotedFrom d) (sym w.1) tt;
     now = now;
-    stands = waits w.0 ∙ sym (ap (λ zs. behind d (entries_in zs)) w.1);
+    stands = waits w.0 ∙ sym (ap (λ zs. process_after d (entries_in zs)) w.1);
   }
   went_ok reply added d' (Err fault) done now (inl e) goes waits = record {
     added = added;

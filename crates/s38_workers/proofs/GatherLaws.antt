@@ -18,7 +18,7 @@ use Rattle.s38_turn.specs.Lists.{has, list_of}
 use Rattle.s38_turn.specs.Seats.{IsSeatOf, SeatView, TurnView}
 use Rattle.s38_turn.proofs.ListLaws.{has_either, has_first, has_second, no_list}
 use Rattle.s38_workers.specs.declared.runner.Runner.{Runner}
-use Rattle.s38_workers.specs.Going.{IsRunning, Stands}
+use Rattle.s38_workers.specs.Going.{IsByProgramSoFar, IsRunning}
 use Rattle.s38_workers.specs.Runs.{AreGathered, AreSeated, HasRun}
 use Rattle.s38_workers.proofs.ListLaws.{list_back, list_front}
 
@@ -55,14 +55,14 @@ module _ {M : Type 0} (Halted : Type 0) (turn : TurnView M) (made : List CreateR
       let place : runner.number - 1 ≡ n = omega (arith, number) in
       record {
         has_it = ap (has (n + 1)) e ∙ has_second (n + 1) ks runner.seat.lists own;
-        stands = λ job one job_at one_at. subst (λ items. Stands Halted one job.budget items runner.progress) list
+        stands = λ job one job_at one_at. subst (λ items. IsByProgramSoFar Halted one job.budget items runner.progress) list
             (running.stands job one (ap (slice_get jobs) place ∙ job_at) (ap (slice_get made) place ∙ one_at));
       }
 
   run_still : (runner : Runner M) (k : ℕ) (ks more ls : List ProcessList) → ls ≡ ks ++ more → HasRun Halted made jobs k runner ks → HasRun Halted made jobs k runner ls
   run_still runner k ks more ls e r = record {
     has_it = ap (has (k + 1)) e ∙ has_first (k + 1) ks more r.has_it;
-    stands = λ job one job_at one_at. subst (λ items. Stands Halted one job.budget items runner.progress) (sym (list_front (k + 1) ks more r.has_it) ∙ ap (list_of (k + 1)) (sym e)) (r.stands job one job_at one_at);
+    stands = λ job one job_at one_at. subst (λ items. IsByProgramSoFar Halted one job.budget items runner.progress) (sym (list_front (k + 1) ks more r.has_it) ∙ ap (list_of (k + 1)) (sym e)) (r.stands job one job_at one_at);
   }
 
   pub gathered_more : (left left' : List (Runner M)) (runner : Runner M) (seat seat' : SeatView M) (n : ℕ) → AreSeated Halted turn made jobs all → AreGathered Halted turn made jobs all left seat → length left ≡ n + 1

@@ -10,20 +10,21 @@ use Rattle.s38_code.specs.declared.made.CreateResult.{CreateResult}
 use Rattle.s38_code.specs.declared.step.StepFault.TheVariants.{Stopped}
 use Rattle.s38_code.specs.History.{entries_of}
 use Rattle.s38_process.specs.declared.status.Status.TheVariants.{Fresh, Ended}
-use Rattle.s38_process.specs.Process.{ProcessState, RanFrom, absorbed, behind, ends_by_finish, fresh}
+use Rattle.s38_process.specs.Process.{ProcessState, fresh}
+use Rattle.s38_process.specs.AfterReply.{RanFrom, absorbed, ends_by_finish, process_after}
 use Rattle.s38_run.specs.Whole.{AllByProgram, AllRan}
 use Rattle.s38_turn.specs.Items.{entries_in, items, items_by}
 use Rattle.s38_turn.proofs.HistoryLaws.{entries_are, own_entries}
 use Rattle.s38_run.proofs.Asking.{asks_open, ends_asking}
-use Rattle.s38_run.proofs.TurnLaws.{there_is}
+use Rattle.s38_run.proofs.ListedJobs.{there_is}
 use Rattle.s38_workers.specs.declared.runner.Runner.{Runner}
 use Rattle.s38_workers.specs.Asking.{NotedFrom}
-use Rattle.s38_workers.specs.Going.{IsSoFar, Stands}
+use Rattle.s38_workers.specs.Going.{IsByProgramSoFar, IsSoFar}
 use Rattle.s38_workers.specs.Runs.{HasFailed, IsNextOf, IsOver}
 use Rattle.s38_workers.proofs.NoteLaws.{stop_asked}
 
 -- a process that has ended ended by asking for its end
-ends : (d : ProcessState) (es : List Entry) → d.status ≢ Ended → RanFrom d es → (behind d es).status ≡ Ended → ends_by_finish es ≡ true
+ends : (d : ProcessState) (es : List Entry) → d.status ≢ Ended → RanFrom d es → (process_after d es).status ≡ Ended → ends_by_finish es ≡ true
 ends d [] going ran over = absurd (going over)
 ends d (e ∷ []) going ran over = ends_asking d e.event e.reply ran.0 over
 ends d (e ∷ f ∷ es) going ran over = ends (absorbed d e.reply) (f ∷ es) (asks_open (absorbed d e.reply) f.event ran.1.0) ran.1 over
@@ -35,7 +36,7 @@ fresh_goes one budget = λ h. apart h
     apart g = cc
 
 module _ {M : Type 0} (Halted : Type 0) (made : List CreateResult) (jobs : List Job) (runners : List (Runner M)) (history : List Entry) (stopped : Option (ℕ × Event)) (count : length runners ≡ length jobs)
-    (stands : (k : ℕ) (d : Runner M) (job : Job) (one : CreateResult) → k < length runners → slice_get jobs k ≡ Some job → slice_get made k ≡ Some one → Stands Halted one job.budget (items_by (k + 1) (items history stopped)) (slice_index_or runners k d).progress) where
+    (stands : (k : ℕ) (d : Runner M) (job : Job) (one : CreateResult) → k < length runners → slice_get jobs k ≡ Some job → slice_get made k ≡ Some one → IsByProgramSoFar Halted one job.budget (items_by (k + 1) (items history stopped)) (slice_index_or runners k d).progress) where
   at : (k : ℕ) → k < length runners → Runner M
   at k lt = head runners (omega (arith, lt))
     where
@@ -54,9 +55,9 @@ module _ {M : Type 0} (Halted : Type 0) (made : List CreateResult) (jobs : List 
   ran k job one job_at one_at = let lt = within k job job_at in subst (RanFrom (fresh one job.budget)) (own k) (stands k (at k lt) job one lt job_at one_at).by_program
 
   far : (k : ℕ) (d : Runner M) (job : Job) (one : CreateResult) → k < length runners → slice_get jobs k ≡ Some job → slice_get made k ≡ Some one
-      → IsSoFar Halted (behind (fresh one job.budget) (entries_of (k + 1) history)) (slice_index_or runners k d).progress (fresh one job.budget)
+      → IsSoFar Halted (process_after (fresh one job.budget) (entries_of (k + 1) history)) (slice_index_or runners k d).progress (fresh one job.budget)
   far k d job one lt job_at one_at =
-      subst (λ es. IsSoFar Halted (behind (fresh one job.budget) es) (slice_index_or runners k d).progress (fresh one job.budget)) (own k) (stands k d job one lt job_at one_at).so_far
+      subst (λ es. IsSoFar Halted (process_after (fresh one job.budget) es) (slice_index_or runners k d).progress (fresh one job.budget)) (own k) (stands k d job one lt job_at one_at).so_far
 
   pub all_by_program : AllByProgram made jobs history
   all_by_program = record { each = ran }
@@ -70,7 +71,7 @@ module _ {M : Type 0} (Halted : Type 0) (made : List CreateResult) (jobs : List 
         let is = (All-get_or IsOver runners k d lt over).is in record {
           by_program = by_program;
           whole = ends (fresh one job.budget) (entries_of (k + 1) history) (fresh_goes one job.budget) by_program
-              (subst (λ progress. IsSoFar Halted (behind (fresh one job.budget) (entries_of (k + 1) history)) progress (fresh one job.budget)) is (far k d job one lt job_at one_at));
+              (subst (λ progress. IsSoFar Halted (process_after (fresh one job.budget) (entries_of (k + 1) history)) progress (fresh one job.budget)) is (far k d job one lt job_at one_at));
         };
   }
 
@@ -80,7 +81,7 @@ module _ {M : Type 0} (Halted : Type 0) (made : List CreateResult) (jobs : List 
       let job = there_is jobs f.place (omega (arith, lt, count)) in
       let one = there_is made f.place (omega (arith, lt, count, same)) in
       let d = at f.place lt in
-      subst (λ progress. IsSoFar Halted (behind (fresh one.0 job.0.budget) (entries_of (f.place + 1) history)) progress (fresh one.0 job.0.budget)) (f.is d) (far f.place d job.0 one.0 lt job.1 one.1)
+      subst (λ progress. IsSoFar Halted (process_after (fresh one.0 job.0.budget) (entries_of (f.place + 1) history)) progress (fresh one.0 job.0.budget)) (f.is d) (far f.place d job.0 one.0 lt job.1 one.1)
 
   -- the call that is noted is what its process asks next
   pub next_of : (call : ℕ × Event) → stopped ≡ Some call → 0 < call.0 → call.0 ≤ length jobs → IsNextOf made jobs history call

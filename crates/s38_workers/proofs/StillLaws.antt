@@ -11,7 +11,7 @@ use Rattle.s38_code.specs.declared.step.StepFault.TheVariants.{Stopped, NoMemory
 use Rattle.s38_code.specs.Asking.{answer_by, reply_by}
 use Rattle.s38_code.specs.History.{first_stop}
 use Rattle.s38_machine.specs.Still.{IsStillStep}
-use Rattle.s38_rules.specs.Legal.{IsSound, Run, after}
+use Rattle.s38_rules.specs.step.Legal.{IsSound, Run, after}
 use Rattle.s38_run.specs.Still.{IsStill, beginning}
 use Rattle.s38_workers.specs.Still.{TakesStillStep}
 

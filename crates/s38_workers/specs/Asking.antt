@@ -7,7 +7,8 @@ use Rattle.s38_code.specs.declared.reply.Reply.{Reply}
 use Rattle.s38_code.specs.declared.step.StepFault.{StepFault}
 use Rattle.s38_code.specs.declared.step.StepFault.TheVariants as faults
 use Rattle.s38_process.specs.declared.status.Status.TheVariants.{Ended}
-use Rattle.s38_process.specs.Process.{ProcessState, RanFrom, absorbed, behind, event_of}
+use Rattle.s38_process.specs.Process.{ProcessState, event_of}
+use Rattle.s38_process.specs.AfterReply.{RanFrom, absorbed, process_after}
 use Rattle.s38_turn.specs.declared.item.Item.{Item}
 use Rattle.s38_turn.specs.declared.item.Item.TheVariants.{Entered, Stopped}
 use Rattle.s38_turn.specs.declared.view.ProcessList.{ProcessList}
@@ -39,14 +40,14 @@ told (Err fault) heard = Err fault
 told (Ok done) (Err fault) = Err faults.NoMemory
 told (Ok done) (Ok heard) = Ok (Some heard)
 
--- how a process stands that its entries have brought there; Halted says that the machine has stopped
-abbrev pub StandsTold : Type 0 → ProcessState → Result (Option Heard) StepFault → ProcessState → Type 0
-StandsTold Halted there (Ok (Some heard)) d = d ≡ there
-StandsTold Halted there (Ok None) d = there.status ≡ Ended
-StandsTold Halted there (Err faults.Stopped) d = Halted
-StandsTold Halted there (Err faults.NoMemory) d = Unit {0}
+-- the process that its entries have brought there, by the answer; Halted says that the machine has stopped
+abbrev pub IsAsTold : Type 0 → ProcessState → Result (Option Heard) StepFault → ProcessState → Type 0
+IsAsTold Halted there (Ok (Some heard)) d = d ≡ there
+IsAsTold Halted there (Ok None) d = there.status ≡ Ended
+IsAsTold Halted there (Err faults.Stopped) d = Halted
+IsAsTold Halted there (Err faults.NoMemory) d = Unit {0}
 
--- each call that is noted as stopped is what the process asks there, behind the entries before it
+-- each call that is noted as stopped is what the process asks there, after the entries before it
 abbrev pub NotedFrom : ProcessState → List Item → Type 0
 NotedFrom d [] = Unit {0}
 NotedFrom d (Entered e ∷ items) = NotedFrom (absorbed d e.reply) items
@@ -58,4 +59,4 @@ pub record Went (Halted : Type 0) (d : ProcessState) (items : List Item) (answer
   pub by_program : RanFrom d (entries_in added)
   pub noted : NotedFrom d added
   pub now : items' ≡ items ++ added
-  pub stands : StandsTold Halted (behind d (entries_in added)) answer d'
+  pub stands : IsAsTold Halted (process_after d (entries_in added)) answer d'

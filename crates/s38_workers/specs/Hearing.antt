@@ -2,7 +2,7 @@
 use Rattle.std.specs.Prelude.{◌≡◌, OnOk}
 use Rattle.s38_code.specs.declared.reply.Reply.{Reply}
 use Rattle.s38_code.specs.declared.reply.Reply.TheVariants.{MustWait}
-use Rattle.s38_process.specs.Process.{absorbed}
+use Rattle.s38_process.specs.AfterReply.{absorbed}
 use Rattle.s38_workers.specs.declared.hearer.Hearer.{Hearer}
 
 -- unless memory is refused, it goes on by the reply; MustWait leaves it as it was

@@ -9,7 +9,7 @@ use Rattle.s38_run.specs.Whole.{AsksNext}
 use Rattle.s38_turn.specs.declared.view.ProcessList.{ProcessList}
 use Rattle.s38_turn.specs.Lists.{has, list_of}
 use Rattle.s38_turn.specs.Seats.{IsSeatOf, SeatView, TurnView}
-use Rattle.s38_workers.specs.Going.{IsFurther, IsRunning, Stands}
+use Rattle.s38_workers.specs.Going.{IsByProgramSoFar, IsFurther, IsRunning}
 use Rattle.s38_workers.specs.declared.runner.Progress.TheVariants.{Over, Failed}
 use Rattle.s38_workers.specs.declared.runner.Runner.{Runner}
 
@@ -31,7 +31,7 @@ pub record HasFailed {M : Type 0} (fault : StepFault) (runners : List (Runner M)
 
 -- ---- seats
 
--- the processes behind the first ones are left, without items
+-- the processes after the first ones are left, without items
 pub record AreLeft (people at : ℕ) (lists : List ProcessList) : Type 0 where
   pub those : (process : ℕ) → at < process → process ≤ people → has process lists ≡ true
   pub none : (process : ℕ) → has process lists ≡ true → (at < process) × (process ≤ people)
@@ -45,7 +45,7 @@ pub record AreSeated {M : Type 0} (Halted : Type 0) (turn : TurnView M) (made : 
 -- the list of a process is that of the job
 pub record HasRun {M : Type 0} (Halted : Type 0) (made : List CreateResult) (jobs : List Job) (k : ℕ) (runner : Runner M) (lists : List ProcessList) : Type 0 where
   pub has_it : has (k + 1) lists ≡ true
-  pub stands : (job : Job) (one : CreateResult) → slice_get jobs k ≡ Some job → slice_get made k ≡ Some one → Stands Halted one job.budget (list_of (k + 1) lists) runner.progress
+  pub stands : (job : Job) (one : CreateResult) → slice_get jobs k ≡ Some job → slice_get made k ≡ Some one → IsByProgramSoFar Halted one job.budget (list_of (k + 1) lists) runner.progress
 
 -- of all jobs some are left, and the seat has the processes of the others
 pub record AreGathered {M : Type 0} (Halted : Type 0) (turn : TurnView M) (made : List CreateResult) (jobs : List Job) (all left : List (Runner M)) (seat : SeatView M) : Type 0 where
@@ -58,7 +58,7 @@ pub record AreGathered {M : Type 0} (Halted : Type 0) (turn : TurnView M) (made 
 
 -- ---- the call that was answered Stopped
 
--- a call of one of the jobs' processes, for what this process asks next behind its entries
+-- a call of one of the jobs' processes, for what this process asks next after its entries
 pub record IsNextOf (made : List CreateResult) (jobs : List Job) (history : List Entry) (call : ℕ × Event) : Type 0 where
   pub first : 0 < call.0
   pub last : call.0 ≤ length jobs

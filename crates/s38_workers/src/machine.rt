@@ -1,6 +1,6 @@
 ghost use Rattle.std.specs.Prelude.{◌≡◌, ◌-◌, ◌<◌, ◌^◌, IfOk, length};
-ghost use Rattle.s38_rules.specs.Legal.{IsSound, begun};
-ghost use Rattle.s38_rules.specs.Opening.{state_of};
+ghost use Rattle.s38_rules.specs.step.Legal.{IsSound, begun};
+ghost use Rattle.s38_rules.specs.state.Opening.{state_of};
 ghost use Rattle.s38_run.specs.Whole.{AllRan};
 
 use crate::gate::Gate;
@@ -21,7 +21,7 @@ pub(crate) struct StillMachine {
 
 impl Stepper for StillMachine {
     ghost use Rattle.std.specs.Prelude.{None};
-    ghost use Rattle.s38_rules.specs.Legal.{IsProcess};
+    ghost use Rattle.s38_rules.specs.step.Legal.{IsProcess};
     ghost use Rattle.s38_run.specs.Still.{Beginning, IsStill, beginning};
     ghost use Rattle.s38_workers.specs.Still.{TakesStillStep};
 

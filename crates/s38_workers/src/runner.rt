@@ -1,5 +1,5 @@
 ghost use Rattle.std.specs.Prelude.{◌≡◌, OnErr, OnOk};
-ghost use Rattle.s38_workers.specs.Going.{begun, progress_behind};
+ghost use Rattle.s38_workers.specs.Going.{begun, progress_after};
 
 use crate::hearer::{Heard, Hearer};
 use s38_base::{NoMemory, TryClone};
@@ -64,9 +64,9 @@ pub fn begin(
     Ok(())
 }
 
-/// A job goes on, is over or has failed behind what its process was told; whether it may go on at once.
+/// A job goes on, is over or has failed after what its process was told; whether it may go on at once.
 pub fn settle(progress: &mut Progress, told: Result<Option<Heard>, StepFault>) -> bool
-    ensures { progress.new ≡ progress_behind told progress.old }
+    ensures { progress.new ≡ progress_after told progress.old }
 {
     match told {
         Err(fault) => {

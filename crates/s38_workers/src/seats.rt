@@ -7,7 +7,7 @@ ghost use Rattle.s38_turn.specs.Lists.{has};
 ghost use Rattle.s38_turn.specs.Rule.{IsOneOf};
 ghost use Rattle.s38_turn.specs.Seats.{IsSeatOf};
 ghost use Rattle.s38_workers.specs.Asking.{WasStopped};
-ghost use Rattle.s38_workers.specs.Going.{IsRunning, Stands};
+ghost use Rattle.s38_workers.specs.Going.{IsByProgramSoFar, IsRunning};
 ghost use Rattle.s38_workers.specs.Runs.{AreGathered, AreLeft, AreSeated};
 ghost use Rattle.s38_workers.specs.declared.runner.Runner.{Runner};
 
@@ -117,7 +117,7 @@ pub fn closed<M: Stepper + Drop>(
     ensures sound { M.is_sound result }
     ensures origin { M.origin result ≡ M.origin turn.machine }
     ensures stands { (k : ℕ) (d : Runner M) (job : Job) (one : CreateResult) → k < length runners.items → slice_get jobs.now k ≡ Some job → slice_get made.now k ≡ Some one
-        → Stands (WasStopped M.is_sound M.origin M.steps turn.machine) one job.budget (items_by (k + 1) (items_of M.history M.stopped result)) (slice_index_or runners.items k d).progress }
+        → IsByProgramSoFar (WasStopped M.is_sound M.origin M.steps turn.machine) one job.budget (items_by (k + 1) (items_of M.history M.stopped result)) (slice_index_or runners.items k d).progress }
     ensures named { IfSome (M.stopped result) (λ call. IsOneOf turn.processes call.0) }
 {
     let mut seat = seat;

@@ -4,14 +4,14 @@ use Rattle.s38_code.specs.declared.entry.Entry.{Entry}
 use Rattle.s38_disk.specs.Disk.{DiskView}
 use Rattle.s38_top.specs.declared.outcome.Outcome.TheVariants as outcomes
 use Rattle.s38_command.specs.Commands.{command_of}
-use Rattle.s38_top.specs.Outcome.{IsAnswered, IsTold}
+use Rattle.s38_top.specs.Outcome.{IsExplained, IsWrittenOut}
 use Rattle.s38_top.specs.Outside.{Outside, outside}
 use Rattle.s38_top.proofs.SafeLaws.{safe_still}
 use Rattle.s38.specs.CommandLine.{EndsSomehow}
 use Rattle.s38.proofs.service.serve.Goals as goal
 
 -- want of memory is an end of any words
-no_memory : (words : List (List ℕ)) (old : Outside) (written : Option (List ℕ)) (put status : ℕ) → IsTold old.written written old.put put status outcomes.NoMemory
+no_memory : (words : List (List ℕ)) (old : Outside) (written : Option (List ℕ)) (put status : ℕ) → IsWrittenOut old.written written old.put put status outcomes.NoMemory
     → EndsSomehow words old old.left old.taken written put status
 no_memory words old written put status told = record {
   history = [];
@@ -25,17 +25,17 @@ no_memory words old written put status told = record {
   };
 }
   where
-    seven : IsTold old.written written old.put put status outcomes.NoMemory → status ≡ 7
+    seven : IsWrittenOut old.written written old.put put status outcomes.NoMemory → status ≡ 7
     seven (inl t) = t.0
     seven (inr t) = t.0
 
     other : (n : ℕ) → n ≡ 7 → n ≡ 0 → ⊥
     other n is zero = omega (arith, is, zero)
 
--- what a call with a disk behind it comes to
+-- what a call with a disk comes to
 answered_of : {D X Y : Type 0} (view : D → DiskView) (f : X → List ℕ) (now : Y → List ℕ) (behind : List X) (texts words : List Y) (disk : Option D) (old : Outside) (left : Option (List ℕ)) (taken : ℕ) (written : Option (List ℕ)) (put status : ℕ) (history : List Entry) (marks : List ℕ)
     → map now texts ≡ map f behind → words ≡ texts → IsSome disk
-    → IfSome disk (λ new. IsAnswered (command_of (map now words)) old (outside left taken written put (view new)) status history marks)
+    → IfSome disk (λ new. IsExplained (command_of (map now words)) old (outside left taken written put (view new)) status history marks)
     → EndsSomehow (map f behind) old left taken written put status
 answered_of view f now behind texts words None old left taken written put status history marks same is there answered = cc
 answered_of view f now behind texts words (Some d) old left taken written put status history marks same is there answered =

@@ -5,7 +5,7 @@ use Rattle.std.specs.Io.KnownBytes.{Keeps}
 use Rattle.s38_disk.specs.Disk.{DiskView}
 use Rattle.s38_disk.specs.Files.{FileStore, file_view}
 use Rattle.s38_top.specs.declared.outcome.Outcome.TheVariants as outcomes
-use Rattle.s38_top.specs.Outcome.{IsTold}
+use Rattle.s38_top.specs.Outcome.{IsWrittenOut}
 use Rattle.s38_top.specs.Outside.{outside}
 use Rattle.s38.specs.CommandLine.{EndsSomehow, IsServed, fresh_file, fresh_store}
 use Rattle.s38.proofs.service.serve_over_file.Goals as goal
@@ -13,9 +13,9 @@ use Rattle.s38.proofs.service.serve_over_file.Goals as goal
 behind_is : {X : Type 0} (w : X) (ws : List X) → take (length (w ∷ ws) - 1) (drop 1 (w ∷ ws)) ≡ ws
 behind_is w ws = grind (arith, common_steps)
 
--- the words behind the path are served over its file
+-- the words after the path are served over its file
 served : {X : Type 0} (f : X → List ℕ) (words : List X) (left left' : Option (List ℕ)) (taken taken' : ℕ) (written written' : Option (List ℕ)) (put put' : ℕ) (status : ℕ) → 1 ≤ length words
-    → (Keeps left left' × IsTold written written' put put' status outcomes.DiskFault) ⊎ EndsSomehow (map f (take (length words - 1) (drop 1 words))) (outside left taken written put fresh_file) left' taken' written' put' status
+    → (Keeps left left' × IsWrittenOut written written' put put' status outcomes.DiskFault) ⊎ EndsSomehow (map f (take (length words - 1) (drop 1 words))) (outside left taken written put fresh_file) left' taken' written' put' status
     → IsServed (map f words) left left' taken taken' written written' put put' status
 served f [] left left' taken taken' written written' put put' status some ends = absurd (omega arith)
 served {X} f (w ∷ ws) left left' taken taken' written written' put put' status some (inl fault) = inl fault

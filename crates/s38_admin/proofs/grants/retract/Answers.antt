@@ -1,8 +1,8 @@
 use Rattle.std.proofs.Common.{◌≡◌, ap}
-use Rattle.s38_rules.specs.Grants.{row_or_public}
-use Rattle.s38_rules.specs.Held.{object}
-use Rattle.s38_rules.specs.Operands.{is_given, target}
-use Rattle.s38_rules.specs.State.{State}
+use Rattle.s38_rules.specs.families.AuthorityReads.{row_or_public}
+use Rattle.s38_rules.specs.state.Held.{object}
+use Rattle.s38_rules.specs.ask.Operands.{is_given, target}
+use Rattle.s38_rules.specs.state.State.{State}
 use Rattle.s38_admin.proofs.GrantLaws.{rights_taken}
 use Rattle.s38_admin.proofs.grants.retract.Goals as goal
 

@@ -1,6 +1,6 @@
 use Rattle.std.proofs.Common.{◌≡◌, ◌++◌, filter}
 use Rattle.std.specs.List.{flat_map}
-use Rattle.s38_rules.specs.Grants.{concern_image, concerns, concerns_image}
+use Rattle.s38_rules.specs.families.AuthorityReads.{concern_image, concerns, concerns_image}
 use Rattle.s38_admin.proofs.images.concerns_image.Given as goal
 
 -- what is made, with the images of the objects that are left, is the whole image

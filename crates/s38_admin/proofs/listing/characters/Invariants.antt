@@ -1,5 +1,5 @@
 use Rattle.std.proofs.Common.{◌≡◌, map, take}
-use Rattle.s38_rules.specs.Contexts.{character}
+use Rattle.s38_rules.specs.families.ContextLists.{character}
 use Rattle.s38_admin.proofs.listing.characters.Given as goal
 
 abbrev pub invariant-loop-c : goal.invariant-loop-c

@@ -1,6 +1,6 @@
 use Rattle.std.proofs.Common.{◌≡◌, ◌++◌}
 use Rattle.std.specs.List.{flat_map}
-use Rattle.s38_rules.specs.Contexts.{name_image, names_image}
+use Rattle.s38_rules.specs.families.ContextLists.{name_image, names_image}
 use Rattle.s38_admin.proofs.listing.names_image.Given as goal
 
 -- what is made, with the images of the names that are left, is the whole image

@@ -1,9 +1,9 @@
 use Rattle.std.proofs.Common.{◌≡◌, ◌+◌, ℕ, None, ap, subst, sym}
 use Rattle.s38_profiles.specs.Users.{SetsUser, charge_in, user_at}
-use Rattle.s38_rules.specs.Creation.{pages_rule}
-use Rattle.s38_rules.specs.Held.{Held, charge_in as charges, pages_of}
-use Rattle.s38_rules.specs.Keeping.{paid}
-use Rattle.s38_rules.specs.State.{State}
+use Rattle.s38_rules.specs.families.Creation.{pages_rule}
+use Rattle.s38_rules.specs.state.Held.{Held, charge_in as charges, pages_of}
+use Rattle.s38_rules.specs.state.Keeping.{paid}
+use Rattle.s38_rules.specs.state.State.{State}
 use Rattle.s38_changes.proofs.CreationLaws.{addition_kept}
 use Rattle.s38_changes.proofs.creation.add.Goals as goal
 

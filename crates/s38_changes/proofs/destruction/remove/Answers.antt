@@ -1,8 +1,8 @@
 use Rattle.std.proofs.Common.{◌≡◌, ℕ, ap, subst, sym, ◌∙◌}
 use Rattle.std.specs.Prelude.{Some}
 use Rattle.s38_profiles.specs.Rows.{row_at, row_key}
-use Rattle.s38_rules.specs.Held.{Held, object}
-use Rattle.s38_rules.specs.Kept.{Mirrors}
+use Rattle.s38_rules.specs.state.Held.{Held, object}
+use Rattle.s38_rules.specs.state.Kept.{Mirrors}
 use Rattle.s38_rules.proofs.ChargeLaws.{found_number}
 use Rattle.s38_changes.proofs.KeptLaws.{rows_read}
 use Rattle.s38_changes.proofs.StandingLaws.{forgotten, none_gone}

@@ -1,8 +1,8 @@
 use Rattle.std.proofs.Common.{subst, sym}
-use Rattle.s38_rules.specs.Cells.{with_cells}
-use Rattle.s38_rules.specs.Held.{Held}
-use Rattle.s38_rules.specs.Kept.{Mirrors}
-use Rattle.s38_rules.specs.Parts.{cells_at}
+use Rattle.s38_rules.specs.state.Cells.{with_cells}
+use Rattle.s38_rules.specs.state.Held.{Held}
+use Rattle.s38_rules.specs.state.Kept.{Mirrors}
+use Rattle.s38_rules.specs.state.PartsAt.{cells_at}
 use Rattle.s38_changes.proofs.CellLaws.{cells_length}
 use Rattle.s38_changes.proofs.KeptLaws.{cells_kept}
 use Rattle.s38_changes.proofs.spaces.put_cells.Goals as goal

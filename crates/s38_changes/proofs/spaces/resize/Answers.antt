@@ -3,12 +3,12 @@ use Rattle.std.specs.Option.{option_copied}
 use Rattle.std.specs.Prelude.{None, Some}
 use Rattle.s38_memory.specs.Tagged.{resized}
 use Rattle.s38_profiles.specs.Users.{SetsUser, charge_in, user_at}
-use Rattle.s38_rules.specs.Held.{Held, object}
-use Rattle.s38_rules.specs.Keeping.{paid}
-use Rattle.s38_rules.specs.Kept.{Mirrors}
-use Rattle.s38_rules.specs.Parts.{over_object, space_part}
-use Rattle.s38_rules.specs.Spaces.{owner_pays, pages_for_length}
-use Rattle.s38_rules.specs.State.{State}
+use Rattle.s38_rules.specs.state.Held.{Held, object}
+use Rattle.s38_rules.specs.state.Keeping.{paid}
+use Rattle.s38_rules.specs.state.Kept.{Mirrors}
+use Rattle.s38_rules.specs.state.Parts.{over_object, space_part}
+use Rattle.s38_rules.specs.families.Spaces.{owner_pays, pages_for_length}
+use Rattle.s38_rules.specs.state.State.{State}
 use Rattle.s38_changes.proofs.StandingLaws.{length_counted, length_kept, space_stays, stays}
 use Rattle.s38_changes.proofs.spaces.resize.Goals as goal
 

@@ -2,7 +2,8 @@ use Rattle.std.proofs.Common.{List, sym, ap, ◌∙◌}
 use Rattle.std.proofs.lemmas.Result.{on_ok_weaker, on_err_weaker}
 use Rattle.s38_memory.specs.declared.cell.Cell.{Cell}
 use Rattle.s38_memory.specs.Tagged.{resized}
-use Rattle.s38_rules.specs.Parts.{over_part, space_lawful, space_part}
+use Rattle.s38_rules.specs.state.Parts.{over_part, space_part}
+use Rattle.s38_rules.specs.state.LawfulParts.{space_lawful}
 use Rattle.s38_rules.proofs.PartLaws.{part_kept, part_same, part_written}
 use Rattle.s38_changes.proofs.spaces.resize_in.Goals as goal
 

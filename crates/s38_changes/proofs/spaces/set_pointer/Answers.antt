@@ -1,7 +1,7 @@
 use Rattle.std.proofs.Common.{List, sym, ap, ◌∙◌}
 use Rattle.s38_memory.specs.declared.cell.Cell.{Cell}
-use Rattle.s38_rules.specs.Cells.{with_pointer}
-use Rattle.s38_rules.specs.Parts.{over_part, space_part}
+use Rattle.s38_rules.specs.state.Cells.{with_pointer}
+use Rattle.s38_rules.specs.state.Parts.{over_part, space_part}
 use Rattle.s38_rules.proofs.PartLaws.{part_kept, part_written}
 use Rattle.s38_changes.proofs.spaces.set_pointer.Goals as goal
 

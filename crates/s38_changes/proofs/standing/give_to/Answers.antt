@@ -1,19 +1,19 @@
 use Rattle.std.proofs.Common.{◌≡◌, ap, refl, subst, sym, ◌∙◌}
 use Rattle.std.specs.Option.{option_copied}
 use Rattle.std.specs.Prelude.{None, Some}
-use Rattle.s38_rules.specs.Grants.{taker_rule}
-use Rattle.s38_rules.specs.Held.{Held, object}
-use Rattle.s38_rules.specs.PrivateRows.{AreRows}
-use Rattle.s38_rules.specs.Standing.{granted, owned_by, standing_of, with_standing}
-use Rattle.s38_rules.specs.State.{State}
-use Rattle.s38_changes.proofs.StandingLaws.{given_counted, object_given, restood, stays}
+use Rattle.s38_rules.specs.families.Grants.{taker_rule}
+use Rattle.s38_rules.specs.state.Held.{Held, object}
+use Rattle.s38_rules.specs.state.PrivateRows.{AreRows}
+use Rattle.s38_rules.specs.state.Access.{access_of, granted, owned_by, with_access}
+use Rattle.s38_rules.specs.state.State.{State}
+use Rattle.s38_changes.proofs.StandingLaws.{given_counted, object_given, standing_merged, stays}
 use Rattle.s38_changes.proofs.standing.give_to.Goals as goal
 
 pub returns-in_default-clause-ok : goal.returns-in_default-clause-ok
 returns-in_default-clause-ok c =
     let held : c.world.inside.objects ≡ c.args.world.now.held = ap (λ (s : State). s.held) c.world.view_is in
     let none : object c.world.inside.objects c.args.number.0 ≡ None = sym c.get.ensures ∙ ap (λ r. option_copied r) c.in_default.is in
-    stays c.args.world.now c.args.number.0 (λ o. with_standing (owned_by c.args.user (granted c.args.user (record { 0 = 255 }) (standing_of o))) o)
+    stays c.args.world.now c.args.number.0 (λ o. with_access (owned_by c.args.user (granted c.args.user (record { 0 = 255 }) (access_of o))) o)
     (subst (λ (h : Held). object h c.args.number.0 ≡ None) held none)
 
 pub pay_more-requires : goal.pay_more-requires
@@ -39,4 +39,4 @@ invariant_of-world-2 c =
 
 pub returns-clause-ok : goal.returns-clause-ok
 returns-clause-ok c =
-    rw (restood c.world.inside.objects c.set_both.new.objects c.set_owner.new.self c.args.number.0 c.args.user (record { 0 = 255 }) c.in-Ok.ensures.ok c.set_owner.ensures, ← c.world.view_is) refl
+    rw (standing_merged c.world.inside.objects c.set_both.new.objects c.set_owner.new.self c.args.number.0 c.args.user (record { 0 = 255 }) c.in-Ok.ensures.ok c.set_owner.ensures, ← c.world.view_is) refl

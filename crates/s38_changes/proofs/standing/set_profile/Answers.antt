@@ -1,6 +1,6 @@
 use Rattle.s38_changes.proofs.StandingLaws.{profile_set}
-use Rattle.s38_rules.specs.Held.{Held}
-use Rattle.s38_rules.specs.Kept.{Mirrors}
+use Rattle.s38_rules.specs.state.Held.{Held}
+use Rattle.s38_rules.specs.state.Kept.{Mirrors}
 use Rattle.std.proofs.Common.{subst, sym, ◌∙◌}
 use Rattle.s38_changes.proofs.standing.set_profile.Goals as goal
 

@@ -1,6 +1,6 @@
 use Rattle.std.proofs.Common.{subst, sym}
-use Rattle.s38_rules.specs.Held.{Held}
-use Rattle.s38_rules.specs.Kept.{Mirrors}
+use Rattle.s38_rules.specs.state.Held.{Held}
+use Rattle.s38_rules.specs.state.Kept.{Mirrors}
 use Rattle.s38_commitment.proofs.CommitmentLaws.{ensured_kept}
 use Rattle.s38_commitment.proofs.objects.ensure_at.Goals as goal
 

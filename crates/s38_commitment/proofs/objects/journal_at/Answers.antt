@@ -1,6 +1,6 @@
 use Rattle.std.proofs.Common.{subst, sym}
-use Rattle.s38_rules.specs.Held.{Held}
-use Rattle.s38_rules.specs.Kept.{Mirrors}
+use Rattle.s38_rules.specs.state.Held.{Held}
+use Rattle.s38_rules.specs.state.Kept.{Mirrors}
 use Rattle.s38_commitment.proofs.CommitmentLaws.{journaled_kept}
 use Rattle.s38_commitment.proofs.objects.journal_at.Goals as goal
 

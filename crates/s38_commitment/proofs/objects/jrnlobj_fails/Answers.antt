@@ -2,9 +2,9 @@ use Rattle.std.proofs.Common.{◌≡◌, ℕ, Bool, not, sym, ap, ◌∙◌}
 use Rattle.std.specs.Prelude.{Some, None, is_some}
 use Rattle.s38_base.specs.Exceptions as exceptions
 use Rattle.s38_base.specs.Signals.{fails}
-use Rattle.s38_rules.specs.Journaling.{journal_for}
-use Rattle.s38_rules.specs.Journals.{is_port_on_disk}
-use Rattle.s38_rules.specs.Operands.{target}
+use Rattle.s38_rules.specs.state.Journaling.{journal_for}
+use Rattle.s38_rules.specs.families.Ports.{is_port_on_disk}
+use Rattle.s38_rules.specs.ask.Operands.{target}
 use Rattle.s38_commitment.proofs.CommitmentLaws.{journaled_first, journaled_then}
 use Rattle.s38_commitment.proofs.objects.jrnlobj_fails.Goals as goal
 

@@ -1,7 +1,7 @@
-use Rattle.s38_rules.specs.Changes.{through_port}
+use Rattle.s38_rules.specs.families.Changes.{through_port}
 use Rattle.std.proofs.Common.{sym, ap, ◌∙◌}
 use Rattle.s38_rules.specs.declared.data_body.DataBody.{DataBody}
-use Rattle.s38_rules.specs.Parts.{data_part, over_part}
+use Rattle.s38_rules.specs.state.Parts.{data_part, over_part}
 use Rattle.s38_rules.proofs.PartLaws.{part_kept, part_written}
 use Rattle.s38_commitment.proofs.objects.lead_through.Goals as goal
 

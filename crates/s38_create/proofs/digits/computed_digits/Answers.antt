@@ -1,5 +1,5 @@
 use Rattle.std.proofs.Common.{◌≡◌, ◌||◌, true, ◌∙◌, ap}
-use Rattle.s38_base.specs.Scalar.{is_numeric}
+use Rattle.s38_base.specs.Attributes.{is_numeric}
 use Rattle.s38_create.proofs.NumberLemmas.{first-numbers, second-source}
 use Rattle.s38_decimal.specs.Need.{has_one, has_second}
 use Rattle.s38_create.proofs.digits.computed_digits.Goals as goal

@@ -1,8 +1,8 @@
 use Rattle.std.proofs.Common.{subst, sym}
 use Rattle.std.specs.Prelude.{None}
-use Rattle.s38_rules.specs.DataSpaces.{with_changed}
-use Rattle.s38_rules.specs.Held.{Held}
-use Rattle.s38_rules.specs.Kept.{Mirrors}
+use Rattle.s38_rules.specs.families.EntryChanges.{with_changed}
+use Rattle.s38_rules.specs.state.Held.{Held}
+use Rattle.s38_rules.specs.state.Kept.{Mirrors}
 use Rattle.s38_cursors.proofs.CursorLaws.{table_kept}
 use Rattle.s38_cursors.proofs.changes.delete_at.Goals as goal
 

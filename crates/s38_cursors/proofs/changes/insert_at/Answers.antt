@@ -1,4 +1,4 @@
-use Rattle.s38_rules.specs.DataSpaces.{with_inserted}
+use Rattle.s38_rules.specs.families.EntryChanges.{with_inserted}
 use Rattle.s38_cursors.proofs.CursorLaws.{table_left}
 use Rattle.s38_cursors.proofs.changes.insert_at.Goals as goal
 

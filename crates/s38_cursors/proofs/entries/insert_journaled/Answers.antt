@@ -4,9 +4,10 @@ use Rattle.s38_commits.specs.declared.change.UnitChange.{UnitChange}
 use Rattle.s38_commits.specs.Changes.{journal_bytes}
 use Rattle.s38_cursors.specs.Insertion.{insertion_logged}
 use Rattle.s38_rules.specs.declared.cursor.Cursor.{Cursor}
-use Rattle.s38_rules.specs.Changing.{journal_rule}
-use Rattle.s38_rules.specs.DataSpaces.{cursor_of, insertion}
-use Rattle.s38_rules.specs.Journaling.{journal_for}
+use Rattle.s38_rules.specs.families.Changing.{journal_rule}
+use Rattle.s38_rules.specs.families.EntryChanges.{insertion}
+use Rattle.s38_rules.specs.families.Cursors.{cursor_named}
+use Rattle.s38_rules.specs.state.Journaling.{journal_for}
 use Rattle.s38_cursors.proofs.CursorLaws.{insdsen_free, insdsen_limits, insdsen_met, insdsen_sized}
 use Rattle.s38_cursors.proofs.entries.insert_journaled.Goals as goal
 
@@ -22,7 +23,7 @@ insert_logged-requires-clause-limits c =
     let s = c.args.world.now in
     let ops = c.args.operands.now in
     rw (c.in-Ok.ensures, c.cursor_in-cursor.ensures)
-    (subst (λ (j : Option ℕ). journal_rule s (cursor_of s.held ops 1).block.0 (journal_bytes (insertion s.held ops)) j ≡ None) c.requires.journal (insdsen_limits s c.args.process ops c.requires.fails).1)
+    (subst (λ (j : Option ℕ). journal_rule s (cursor_named s.held ops 1).block.0 (journal_bytes (insertion s.held ops)) j ≡ None) c.requires.journal (insdsen_limits s c.args.process ops c.requires.fails).1)
 
 pub insert_logged-requires-clause-len : goal.insert_logged-requires-clause-len
 insert_logged-requires-clause-len c = rw (c.in-Ok.ensures, c.requires.entry) (insdsen_sized c.args.world.now c.args.process c.args.operands.now c.requires.fails)
@@ -39,4 +40,4 @@ returns-in-Ok-insert_logged-clause-ok c =
     let ops = c.args.operands.now in
     c.in-Ok-insert_logged.ensures.ok
     ∙ ap (λ (k : Cursor). insertion_logged s c.args.process k.block.0 c.in-Ok.change c.args.entry.now) c.cursor_in-cursor.ensures
-    ∙ ap (λ (k : UnitChange). insertion_logged s c.args.process (cursor_of s.held ops 1).block.0 k c.args.entry.now) c.in-Ok.ensures
+    ∙ ap (λ (k : UnitChange). insertion_logged s c.args.process (cursor_named s.held ops 1).block.0 k c.args.entry.now) c.in-Ok.ensures

@@ -1,6 +1,7 @@
 use Rattle.std.proofs.Common.{◌≡◌, ℕ, List, subst, sym}
 use Rattle.std.specs.Prelude.{None, Some}
-use Rattle.s38_rules.specs.DataSpaces.{change_at, current_fails, cursor_of}
+use Rattle.s38_rules.specs.families.EntryChanges.{change_at, current_fails}
+use Rattle.s38_rules.specs.families.Cursors.{cursor_named}
 use Rattle.s38_cursors.proofs.CursorLaws.{updsen_current, updsen_met, updsen_valued}
 use Rattle.s38_cursors.proofs.InsertLaws.{logged_table}
 use Rattle.s38_cursors.proofs.entries.update_entry.Goals as goal
@@ -14,7 +15,7 @@ pub update_at-requires-clause-fits : goal.update_at-requires-clause-fits
 update_at-requires-clause-fits c =
     let s = c.args.world.now in
     let ops = c.args.operands.now in
-    let cursor = cursor_of s.held ops 1 in
+    let cursor = cursor_named s.held ops 1 in
     rw (c.in-Ok.ensures.ok, c.cursor_in-cursor.ensures, logged_table s c.args.process cursor.block.0 (change_at s.held ops (Some c.args.entry.now)) cursor.space.0, c.requires.entry)
     (updsen_met s c.args.process ops c.requires.fails)
 
@@ -22,6 +23,6 @@ pub update_at-requires-clause-values : goal.update_at-requires-clause-values
 update_at-requires-clause-values c =
     let s = c.args.world.now in
     let ops = c.args.operands.now in
-    let cursor = cursor_of s.held ops 1 in
+    let cursor = cursor_named s.held ops 1 in
     rw (c.in-Ok.ensures.ok, c.cursor_in-cursor.ensures, logged_table s c.args.process cursor.block.0 (change_at s.held ops (Some c.args.entry.now)) cursor.space.0, c.requires.entry)
     (updsen_valued s c.args.process ops c.requires.fails)

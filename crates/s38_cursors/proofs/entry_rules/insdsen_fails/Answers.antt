@@ -1,11 +1,11 @@
 use Rattle.std.proofs.Common.{◌≡◌, ℕ, ◌+◌, ap, sym, ◌∙◌}
 use Rattle.std.specs.Prelude.{None}
 use Rattle.std.specs.Option.{option_copied, unwrap_or}
-use Rattle.s38_rules.specs.Changing.{journal_rule}
-use Rattle.s38_rules.specs.DataSpaces.{change_rules, entry_rule}
-use Rattle.s38_rules.specs.Journaling.{journal_for}
-use Rattle.s38_rules.specs.Parts.{no_table}
-use Rattle.s38_rules.specs.State.{State}
+use Rattle.s38_rules.specs.families.Changing.{journal_rule}
+use Rattle.s38_rules.specs.families.EntryChanges.{change_rules, entry_rule}
+use Rattle.s38_rules.specs.state.Journaling.{journal_for}
+use Rattle.s38_rules.specs.state.PartsAt.{no_table}
+use Rattle.s38_rules.specs.state.State.{State}
 use Rattle.s38_cursors.proofs.CursorLaws.{entry_sized, first_rest, first_some}
 use Rattle.s38_cursors.proofs.FoundLaws.{insdsen_found}
 use Rattle.s38_cursors.proofs.entry_rules.insdsen_fails.Goals as goal

@@ -1,10 +1,10 @@
 use Rattle.std.proofs.Common.{◌≡◌, ap, sym, ◌∙◌}
 use Rattle.std.specs.Prelude.{None, Some}
 use Rattle.std.specs.Option.{option_copied, unwrap_or}
-use Rattle.s38_rules.specs.DataSpaces.{entry_rule}
-use Rattle.s38_rules.specs.Operands.{bytes_at}
-use Rattle.s38_rules.specs.Parts.{no_table}
-use Rattle.s38_rules.specs.State.{State}
+use Rattle.s38_rules.specs.families.EntryChanges.{entry_rule}
+use Rattle.s38_rules.specs.ask.Operands.{bytes_at}
+use Rattle.s38_rules.specs.state.PartsAt.{no_table}
+use Rattle.s38_rules.specs.state.State.{State}
 use Rattle.s38_cursors.proofs.CursorLaws.{entry_sized, first_rest, first_some}
 use Rattle.s38_cursors.proofs.FoundLaws.{updsen_found}
 use Rattle.s38_cursors.proofs.entry_rules.updsen_fails.Goals as goal
@@ -26,4 +26,4 @@ returns c =
     let entry : entry_rule table.fields h ops ≡ None = sym c.entry_rule.ensures ∙ c.in_default.is in
     rw (← updsen_found c.args.world.now c.args.process ops h c.cursor_of-cursor.result table held c.cursor_of-cursor.ensures c.table_at-table.ensures)
     (first_rest _ _ _ entry
-    (c.standing_fails.ensures (Some (bytes_at h ops 2)) (entry_sized table.fields h ops entry ∙ sym c.entry_len_in.ensures.len)))
+    (c.current_entry_fails.ensures (Some (bytes_at h ops 2)) (entry_sized table.fields h ops entry ∙ sym c.entry_len_in.ensures.len)))

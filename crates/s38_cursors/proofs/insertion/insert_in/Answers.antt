@@ -1,7 +1,8 @@
 use Rattle.std.proofs.Common.{sym, ap, ◌∙◌}
 use Rattle.s38_rules.specs.declared.data_body.DataBody.{DataBody}
-use Rattle.s38_rules.specs.DataSpaces.{with_inserted}
-use Rattle.s38_rules.specs.Parts.{data_part, over_part, over_table}
+use Rattle.s38_rules.specs.families.EntryChanges.{with_inserted}
+use Rattle.s38_rules.specs.state.Parts.{data_part, over_part}
+use Rattle.s38_rules.specs.state.PartsAt.{over_table}
 use Rattle.s38_rules.proofs.PartLaws.{part_kept, part_written}
 use Rattle.s38_cursors.proofs.insertion.insert_in.Goals as goal
 

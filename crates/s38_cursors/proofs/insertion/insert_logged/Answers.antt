@@ -1,8 +1,8 @@
 use Rattle.std.proofs.Common.{◌≡◌, ◌≤◌, ℕ, ap, subst}
 use Rattle.s38_base.specs.Limits.{furthest}
 use Rattle.s38_cursors.specs.Insertion.{logged_by}
-use Rattle.s38_rules.specs.Parts.{table_at}
-use Rattle.s38_rules.specs.State.{State}
+use Rattle.s38_rules.specs.state.PartsAt.{table_at}
+use Rattle.s38_rules.specs.state.State.{State}
 use Rattle.s38_cursors.proofs.CursorLaws.{taken_by}
 use Rattle.s38_cursors.proofs.InsertLaws.{inserted_left, insertion_ok, journal_there, room_met}
 use Rattle.s38_cursors.proofs.insertion.insert_logged.Goals as goal

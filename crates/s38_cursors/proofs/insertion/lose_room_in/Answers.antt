@@ -1,6 +1,7 @@
 use Rattle.std.proofs.Common.{sym, ap, ◌∙◌}
 use Rattle.s38_rules.specs.declared.data_body.DataBody.{DataBody}
-use Rattle.s38_rules.specs.Parts.{data_part, over_part, over_table}
+use Rattle.s38_rules.specs.state.Parts.{data_part, over_part}
+use Rattle.s38_rules.specs.state.PartsAt.{over_table}
 use Rattle.s38_rules.proofs.PartLaws.{part_kept, part_written}
 use Rattle.s38_cursors.specs.Insertion.{roomless}
 use Rattle.s38_cursors.proofs.insertion.lose_room_in.Goals as goal

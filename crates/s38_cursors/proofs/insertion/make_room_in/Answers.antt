@@ -1,7 +1,9 @@
 use Rattle.std.proofs.Common.{sym, ap, ◌∙◌}
 use Rattle.std.proofs.lemmas.Result.{on_ok_weaker, on_err_weaker}
 use Rattle.s38_rules.specs.declared.data_body.DataBody.{DataBody}
-use Rattle.s38_rules.specs.Parts.{data_lawful, data_part, over_part, over_table}
+use Rattle.s38_rules.specs.state.Parts.{data_part, over_part}
+use Rattle.s38_rules.specs.state.PartsAt.{over_table}
+use Rattle.s38_rules.specs.state.LawfulParts.{data_lawful}
 use Rattle.s38_rules.proofs.PartLaws.{part_kept, part_same, part_written}
 use Rattle.s38_cursors.specs.Insertion.{roomy}
 use Rattle.s38_cursors.proofs.insertion.make_room_in.Goals as goal

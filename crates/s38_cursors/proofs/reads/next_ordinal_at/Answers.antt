@@ -1,5 +1,5 @@
 use Rattle.std.proofs.Common.{ap, ◌∙◌}
-use Rattle.s38_rules.specs.DataSpaces.{next_ordinal}
+use Rattle.s38_rules.specs.families.EntryChanges.{next_ordinal}
 use Rattle.s38_cursors.proofs.reads.next_ordinal_at.Goals as goal
 
 pub returns : goal.returns

@@ -1,7 +1,7 @@
 use Rattle.std.proofs.Common.{◌-◌, ◌∙◌, refl, arith}
 use Rattle.std.specs.Int.{w128}
 use Rattle.std.proofs.lemmas.Int.{to_z-of_z}
-use Rattle.s38_base.specs.Scalar.{digits_of, fraction_of}
+use Rattle.s38_base.specs.Attributes.{digits_of, fraction_of}
 use Rattle.s38_decimal.specs.Need.{longer_fraction}
 use Rattle.s38_decimal.proofs.Attributes.{IsOf-small}
 use Rattle.s38_decimal.proofs.Rooms.{raised_le, top_room}

@@ -1,6 +1,6 @@
 use Rattle.std.proofs.Common.{◌≡◌, ◌^◌, sym, ◌∙◌, arith}
 use Rattle.std.proofs.Math.Nat.{one-le-pow}
-use Rattle.s38_base.specs.Scalar.{fraction_of}
+use Rattle.s38_base.specs.Attributes.{fraction_of}
 use Rattle.s38_decimal.proofs.Attributes.{fits_same}
 use Rattle.s38_decimal.proofs.OrderLaws.{order_same}
 use Rattle.s38_decimal.proofs.order.compare.Goals as goal

@@ -1,7 +1,7 @@
 use Rattle.std.proofs.Common.{◌≡◌, ◌^◌, pos, ap, sym, ◌∙◌, arith}
 use Rattle.std.specs.Prelude.{int_lt}
 use Rattle.std.proofs.Math.Nat.{one-le-pow}
-use Rattle.s38_base.specs.Scalar.{fraction_of}
+use Rattle.s38_base.specs.Attributes.{fraction_of}
 use Rattle.s38_decimal.proofs.Attributes.{fits_fraction, fits_magnitude, fits_same}
 use Rattle.s38_decimal.proofs.OrderLaws.{order_down, order_greater, order_less, order_up}
 use Rattle.s38_decimal.proofs.order.compare_any.Goals as goal

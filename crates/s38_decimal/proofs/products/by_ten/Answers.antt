@@ -1,5 +1,5 @@
 use Rattle.std.proofs.Common.{◌≡◌, ◌+◌, ap, refl, arith}
-use Rattle.s38_base.specs.Scalar.{fraction_of}
+use Rattle.s38_base.specs.Attributes.{fraction_of}
 use Rattle.s38_decimal.proofs.Attributes.{fits_numeric, fits_same, fraction_le}
 use Rattle.s38_decimal.proofs.ProductLaws.{lowered_top, lowered_units}
 use Rattle.s38_decimal.proofs.Rooms.{bottom_room, top_room}

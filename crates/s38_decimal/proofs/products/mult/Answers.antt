@@ -1,5 +1,5 @@
 use Rattle.std.proofs.Common.{◌≡◌, ◌*ℤ◌, ◌+◌, arith}
-use Rattle.s38_base.specs.Scalar.{fraction_of}
+use Rattle.s38_base.specs.Attributes.{fraction_of}
 use Rattle.s38_decimal.proofs.Attributes.{fits_same}
 use Rattle.s38_decimal.proofs.ProductLaws.{product_room, product_top, product_units}
 use Rattle.s38_decimal.proofs.Rooms.{bottom_room, same_top, top_room}

@@ -1,6 +1,6 @@
 use Rattle.std.proofs.Common.{neg_ℤ, ap, ◌∙◌, arith}
 use Rattle.std.specs.Prelude.{unsigned_abs}
-use Rattle.s38_base.specs.Scalar.{fraction_of}
+use Rattle.s38_base.specs.Attributes.{fraction_of}
 use Rattle.s38_decimal.proofs.Attributes.{IsOf-fits, IsOf-small, digits_few, fits_numeric, fits_same, fraction_le}
 use Rattle.s38_decimal.proofs.ProductLaws.{negative_top}
 use Rattle.s38_decimal.proofs.Rooms.{bottom_room, top_room}

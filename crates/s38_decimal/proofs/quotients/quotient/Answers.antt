@@ -1,7 +1,7 @@
 use Rattle.std.proofs.Common.{◌≡◌, ◌*ℤ◌, ◌+◌, ap, ◌∙◌, arith}
 use Rattle.std.specs.Prelude.{unsigned_abs}
 use Rattle.std.specs.Int.{int_signum}
-use Rattle.s38_base.specs.Scalar.{fraction_of}
+use Rattle.s38_base.specs.Attributes.{fraction_of}
 use Rattle.s38_decimal.proofs.Attributes.{IsOf-fits, IsOf-small, digits_few, fits_numeric, fits_same, fraction_le}
 use Rattle.s38_decimal.proofs.QuotientLaws.{quotient_bottom, quotient_top, quotient_units}
 use Rattle.s38_decimal.proofs.Rooms.{bottom_is, same_top, top_room}

@@ -1,5 +1,5 @@
 use Rattle.std.proofs.Common.{arith}
-use Rattle.s38_base.specs.Scalar.{digits_of}
+use Rattle.s38_base.specs.Attributes.{digits_of}
 use Rattle.s38_decimal.proofs.Powers.{below_half}
 use Rattle.s38_decimal.proofs.Attributes.{digits_few}
 use Rattle.s38_decimal.proofs.read.spelled.Goals as goal

@@ -1,6 +1,6 @@
 use Rattle.std.proofs.Common.{◌≡◌, ap, refl, arith}
 use Rattle.std.specs.Prelude.{unsigned_abs}
-use Rattle.s38_base.specs.Scalar.{fraction_of}
+use Rattle.s38_base.specs.Attributes.{fraction_of}
 use Rattle.s38_decimal.specs.Common.{brought, rest_of}
 use Rattle.s38_decimal.specs.Need.{longer_fraction}
 use Rattle.s38_decimal.proofs.Attributes.{IsOf-fits, IsOf-word, fits_numeric, fits_same, fraction_le}

@@ -1,7 +1,7 @@
 use Rattle.std.proofs.Common.{refl, sym, ◌∙◌, arith}
 use Rattle.std.specs.Int.{w128}
 use Rattle.std.proofs.lemmas.Int.{to_z-of_z}
-use Rattle.s38_base.specs.Scalar.{fraction_of}
+use Rattle.s38_base.specs.Attributes.{fraction_of}
 use Rattle.s38_decimal.proofs.Attributes.{IsOf-fits, IsOf-few, IsOf-word, first_fraction, fits_same, second_fraction}
 use Rattle.s38_decimal.proofs.SumLaws.{plain_sum}
 use Rattle.s38_decimal.proofs.sums.add.Goals as goal

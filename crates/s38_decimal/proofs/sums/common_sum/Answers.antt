@@ -1,7 +1,7 @@
 use Rattle.std.proofs.Common.{◌≡◌, ap, ◌∙◌, arith}
 use Rattle.std.specs.Int.{w128}
 use Rattle.std.proofs.lemmas.Int.{to_z-of_z}
-use Rattle.s38_base.specs.Scalar.{fraction_of}
+use Rattle.s38_base.specs.Attributes.{fraction_of}
 use Rattle.s38_decimal.specs.Common.{brought}
 use Rattle.s38_decimal.proofs.Attributes.{fraction_le}
 use Rattle.s38_decimal.proofs.Rooms.{sum_is, sum_room}

@@ -2,7 +2,7 @@ use Rattle.std.proofs.Common.{neg_ℤ, refl, ap, sym, ◌∙◌, arith}
 use Rattle.std.specs.Int.{w128}
 use Rattle.std.proofs.lemmas.Int.{to_z-of_z}
 use Rattle.std.specs.Prelude.{unsigned_abs}
-use Rattle.s38_base.specs.Scalar.{fraction_of}
+use Rattle.s38_base.specs.Attributes.{fraction_of}
 use Rattle.s38_decimal.proofs.Attributes.{IsOf-few, IsOf-fits, IsOf-negative, IsOf-small, IsOf-word, first_fraction, fits_same, second_fraction}
 use Rattle.s38_decimal.proofs.Rooms.{same_word}
 use Rattle.s38_decimal.proofs.SumLaws.{difference_is_sum, plain_sum}

@@ -1,7 +1,7 @@
 use Rattle.std.proofs.Common.{◌≡◌, arith}
 use Rattle.std.specs.Int.{w128}
 use Rattle.std.proofs.lemmas.Int.{to_z-of_z}
-use Rattle.s38_base.specs.Scalar.{fraction_of}
+use Rattle.s38_base.specs.Attributes.{fraction_of}
 use Rattle.s38_decimal.specs.Common.{common_sum}
 use Rattle.s38_decimal.specs.Need.{longer_fraction}
 use Rattle.s38_decimal.proofs.Attributes.{digits_few, fraction_le}

@@ -1,5 +1,5 @@
 use Rattle.std.proofs.Common.{◌≡◌, ◌≤◌, ◌<◌, ℕ, false, get_or, take}
-use Rattle.s38_disk.specs.Blocks.{after, settled}
+use Rattle.s38_disk.specs.Blocks.{after_calls, synced_state}
 use Rattle.s38_disk.specs.Memory.{IsDurable, is_good_sync}
 use Rattle.s38_disk.specs.declared.block.Block.{Block}
 use Rattle.s38_disk.specs.declared.block.Call.{Call}
@@ -9,5 +9,5 @@ abbrev pub invariant-loop-k : goal.invariant-loop-k
 invariant-loop-k l = record {
   within : l.kept ≤ l.k;
   last : (k : ℕ) (d : Call) → l.kept ≤ k → k < l.k → is_good_sync (get_or l.calls k d) ≡ false;
-  durable : (blocks : ℕ → Block) → IsDurable (after (settled blocks) (take l.kept l.calls));
+  durable : (blocks : ℕ → Block) → IsDurable (after_calls (synced_state blocks) (take l.kept l.calls));
 }

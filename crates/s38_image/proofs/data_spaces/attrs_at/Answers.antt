@@ -1,8 +1,8 @@
 use Rattle.std.proofs.Common.{◌-◌, ◌+◌, List, ap, sym, ◌∙◌}
 use Rattle.std.proofs.lemmas.Result.{err_from_is_err_and}
 use Rattle.s38_base.specs.declared.attr.Attr.{Attr}
-use Rattle.s38_codecs.specs.Codec.{times}
-use Rattle.s38_codecs.proofs.Loop.{ends, goes_on, is_done, with_front}
+use Rattle.s38_codec.specs.Codec.{times}
+use Rattle.s38_codec.proofs.Loop.{ends, goes_on, is_done, with_front}
 use Rattle.s38_image.specs.Scalars.{attr}
 use Rattle.s38_image.proofs.data_spaces.attrs_at.Goals as goal
 

@@ -1,6 +1,6 @@
 use Rattle.std.proofs.Common.{◌≡◌, ◌-◌}
-use Rattle.s38_codecs.specs.Codec.{times}
-use Rattle.s38_codecs.proofs.Loop.{with_front}
+use Rattle.s38_codec.specs.Codec.{times}
+use Rattle.s38_codec.proofs.Loop.{with_front}
 use Rattle.s38_image.specs.Scalars.{attr}
 use Rattle.s38_image.proofs.data_spaces.attrs_at.Given as goal
 

@@ -1,10 +1,10 @@
 use Rattle.std.proofs.Common.{◌≡◌, ◌-◌, ◌+◌, Bool, cond, List, Some, None, ap, subst, sym, ◌∙◌}
 use Rattle.std.proofs.lemmas.Result.{err_from_is_err_and}
 use Rattle.s38_base.specs.declared.attr.Attr.{Attr}
-use Rattle.s38_codecs.specs.Codec.{times}
-use Rattle.s38_codecs.specs.Reading.{Fails}
-use Rattle.s38_codecs.proofs.Loop.{goes_on, whole_done, whole_ends, with_front}
-use Rattle.s38_dataspaces.specs.Entries.{Entry}
+use Rattle.s38_codec.specs.Codec.{times}
+use Rattle.s38_codec.specs.Reading.{Fails}
+use Rattle.s38_codec.proofs.Loop.{goes_on, whole_done, whole_ends, with_front}
+use Rattle.s38_dataspaces.specs.Entries.{DataEntry}
 use Rattle.s38_dataspaces.specs.Table.{DataTable}
 use Rattle.s38_image.specs.DataSpaces.{slot}
 use Rattle.s38_image.specs.Steps.{slot_value}
@@ -23,7 +23,7 @@ loop-preserved c =
     let after = c.in_ok-stands.after.now in
     let read = subst (λ (fs : List Attr). (slot fs).read c.loop.rest.now ≡ Some (value, after)) c.loop.invariant.fields c.in_ok-stands.ensures.read in
     record {
-      read = ap (λ (es : List Entry). with_front es ((times (c.args.count - (c.loop.counter + 1)) (slot c.args.fields)).read after)) (ap (λ (t : DataTable). t.entries) same)
+      read = ap (λ (es : List DataEntry). with_front es ((times (c.args.count - (c.loop.counter + 1)) (slot c.args.fields)).read after)) (ap (λ (t : DataTable). t.entries) same)
           ∙ goes_on (slot c.args.fields) c.loop.space.entries c.args.count c.loop.counter c.loop.rest.now value after _ c.loop-test.true read c.loop.invariant.read;
       fields = ap (λ (t : DataTable). t.fields) same ∙ c.loop.invariant.fields;
       spare = ap (λ (t : DataTable). t.spare) same;

@@ -1,5 +1,5 @@
 use Rattle.std.proofs.Common.{sym, subst, Option}
-use Rattle.s38_codecs.specs.Reading.{Gives}
+use Rattle.s38_codec.specs.Reading.{Gives}
 use Rattle.s38_image.proofs.IndexReading.{gives_index, index_whole}
 use Rattle.s38_indexes.specs.Entries.{EntryIndex}
 use Rattle.s38_image.proofs.indexes.index_in.Goals as goal

@@ -1,9 +1,9 @@
 use Rattle.std.proofs.Common.{◌≡◌, ◌-◌, ◌+◌, ◌∷◌, ◌++◌, [], true, length, ℕ, List, ap, sym, ◌∙◌, arith}
 use Rattle.std.proofs.lemmas.Result.{err_from_is_err_and}
-use Rattle.s38_codecs.specs.Formats.{read_from}
+use Rattle.s38_codec.specs.Formats.{read_from}
 use Rattle.s38_image.proofs.JournalReading.{fails, goes_on, is_end, is_past, one_longer, some_left, with_before}
 use Rattle.s38_image.specs.Journals.{entry}
-use Rattle.s38_journals.specs.Entries.{Entry, entered, may_stand}
+use Rattle.s38_journals.specs.Entries.{JournalRecord, logged_entry, may_be_at}
 use Rattle.s38_image.proofs.journals.entries_in.Goals as goal
 
 pub returns-then-is_empty-clause-read : goal.returns-then-is_empty-clause-read
@@ -17,7 +17,7 @@ returns-in_err-entry-clause-read c =
     rw (p.1, p.2) (fails c.loop-place.journal.entries (length c.args.from.now) c.loop-place.place c.loop-place.rest.now c.in_err-entry.field-0.0 _ (omega (arith, c.loop-place-test.true)) some c.in_err-entry.ensures.read c.loop-place.invariant.read)
 
 pub add-requires-clause-stands : goal.add-requires-clause-stands
-add-requires-clause-stands c = ap (λ (n : ℕ). may_stand (n + 1) (entered c.in_ok-entry.entry)) c.loop-place.invariant.count ∙ c.in_ok-entry.ensures.stands
+add-requires-clause-stands c = ap (λ (n : ℕ). may_be_at (n + 1) (logged_entry c.in_ok-entry.entry)) c.loop-place.invariant.count ∙ c.in_ok-entry.ensures.stands
 
 pub loop-place-preserved : goal.loop-place-preserved
 loop-place-preserved c =
@@ -27,9 +27,9 @@ loop-place-preserved c =
     let after = c.in_ok-entry.after.now in
     let entries = c.in_ok-add.ensures.entries in
     record {
-      read = ap (λ (es : List Entry). with_before es (read_from entry (n - (place + 1)) (place + 1 + 1) after)) entries
-          ∙ goes_on c.loop-place.journal.entries n place c.loop-place.rest.now (entered c.in_ok-entry.entry) after _ (omega (arith, c.loop-place-test.true)) some c.in_ok-entry.ensures.read c.loop-place.invariant.read;
-      count = ap (λ (es : List Entry). length es) entries ∙ one_longer c.loop-place.journal.entries (entered c.in_ok-entry.entry) place c.loop-place.invariant.count;
+      read = ap (λ (es : List JournalRecord). with_before es (read_from entry (n - (place + 1)) (place + 1 + 1) after)) entries
+          ∙ goes_on c.loop-place.journal.entries n place c.loop-place.rest.now (logged_entry c.in_ok-entry.entry) after _ (omega (arith, c.loop-place-test.true)) some c.in_ok-entry.ensures.read c.loop-place.invariant.read;
+      count = ap (λ (es : List JournalRecord). length es) entries ∙ one_longer c.loop-place.journal.entries (logged_entry c.in_ok-entry.entry) place c.loop-place.invariant.count;
       spare = c.in_ok-add.ensures.spare;
     }
 

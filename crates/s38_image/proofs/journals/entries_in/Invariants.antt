@@ -1,5 +1,5 @@
 use Rattle.std.proofs.Common.{◌≡◌, ◌-◌, ◌+◌, length}
-use Rattle.s38_codecs.specs.Formats.{read_from}
+use Rattle.s38_codec.specs.Formats.{read_from}
 use Rattle.s38_image.specs.Journals.{entry}
 use Rattle.s38_image.proofs.JournalReading.{with_before}
 use Rattle.s38_image.proofs.journals.entries_in.Given as goal

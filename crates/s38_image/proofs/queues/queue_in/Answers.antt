@@ -1,5 +1,5 @@
 use Rattle.std.proofs.Common.{sym, subst, Option, arith}
-use Rattle.s38_codecs.specs.Reading.{Gives}
+use Rattle.s38_codec.specs.Reading.{Gives}
 use Rattle.s38_image.proofs.QueueLaws.{gives_queue, head_len, queue_whole}
 use Rattle.s38_image.specs.Queues.{QueueHead}
 use Rattle.s38_queues.specs.MessageQueue.{MessageQueue}

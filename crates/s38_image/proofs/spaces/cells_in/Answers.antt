@@ -2,8 +2,8 @@ use Rattle.std.proofs.Common.{◌-◌, ◌+◌, Bool, cond, eqb, length, take, d
 use Rattle.std.proofs.lemmas.List.Elements.{All-push}
 use Rattle.std.proofs.lemmas.Result.{err_from_is_err_and}
 use Rattle.std.specs.Prelude.{All}
-use Rattle.s38_codecs.specs.Reading.{Gives}
-use Rattle.s38_codecs.proofs.Loop.{with_front}
+use Rattle.s38_codec.specs.Reading.{Gives}
+use Rattle.s38_codec.proofs.Loop.{with_front}
 use Rattle.s38_image.proofs.SpaceReading.{all_taken, fails, goes_on, is_done, no_more}
 use Rattle.s38_image.specs.Spaces.{cells_by, flags_in}
 use Rattle.s38_memory.specs.Cell.{IsCell}

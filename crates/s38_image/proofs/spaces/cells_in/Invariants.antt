@@ -1,6 +1,6 @@
 use Rattle.std.proofs.Common.{◌≡◌, drop, take}
 use Rattle.std.specs.Prelude.{All}
-use Rattle.s38_codecs.proofs.Loop.{with_front}
+use Rattle.s38_codec.proofs.Loop.{with_front}
 use Rattle.s38_image.specs.Spaces.{cells_by, flags_in}
 use Rattle.s38_memory.specs.Cell.{IsCell}
 use Rattle.s38_image.proofs.spaces.cells_in.Given as goal

@@ -1,5 +1,5 @@
 use Rattle.std.proofs.Common.{◌∙◌}
-use Rattle.s38_indexes.specs.Entries.{fits}
+use Rattle.s38_indexes.specs.Entries.{is_in_relation}
 use Rattle.s38_indexes.proofs.CutLaws.{has_first}
 use Rattle.s38_indexes.proofs.OrderLaws.{rising_cut}
 use Rattle.s38_indexes.proofs.entries.has.Goals as goal
@@ -9,4 +9,4 @@ returns-in-Some c =
     let relation = c.args.relation in
     let key = c.args.key.now in
     let xs = c.args.entries.now in
-    c.fits.ensures ∙ has_first (fits relation key) c.in-Some.first.now xs (rising_cut relation key xs c.requires.downward c.requires.rising) c.in-Some.ensures.value
+    c.fits.ensures ∙ has_first (is_in_relation relation key) c.in-Some.first.now xs (rising_cut relation key xs c.requires.downward c.requires.rising) c.in-Some.ensures.value

@@ -1,8 +1,9 @@
 use Rattle.std.proofs.Common.{◌≤◌, ◌<◌, ◌∙◌, List, ap, arith, get_or, length, subst, sym, []}
 use Rattle.std.specs.Prelude.{remove}
-use Rattle.s38_indexes.specs.Entries.{Entry, without_entry}
+use Rattle.s38_indexes.specs.Entries.{IndexEntry, without_entry}
 use Rattle.s38_indexes.specs.Leaves.{NoneEmpty, first_reaching, joined}
-use Rattle.s38_indexes.proofs.LeafLaws.{held_inside, held_past, kept_all, others_after, removed_in}
+use Rattle.s38_indexes.proofs.LeafLaws.{kept_all, others_after, removed_in}
+use Rattle.s38_indexes.proofs.LookupLaws.{held_inside, held_past}
 use Rattle.s38_indexes.proofs.OrderLaws.{without_none}
 use Rattle.s38_indexes.proofs.leaves.remove.Goals as goal
 
@@ -58,11 +59,11 @@ drop_empty-requires-clause-others c =
     let at = c.first_reaching-at.result in
     let first = c.first_reaching-at.ensures.value ∙ ap (first_reaching key) c.deref.ensures.value in
     let bound = c.first_reaching-at.ensures.bound in
-    let same = ap (λ (ls : List (List Entry)). length ls) c.deref.ensures.value in
+    let same = ap (λ (ls : List (List IndexEntry)). length ls) c.deref.ensures.value in
     let length_is = c.len.ensures in
     let other = c.if-at-len.false in
     let low : at < length leaves = omega arith in
-    subst (λ ls. NoneEmpty (remove ls at)) (sym c.remove_at.ensures.rest) (others_after (λ (l : List Entry). 1 ≤ length l) leaves at (without_entry key (get_or leaves at [])) low c.requires.none_empty)
+    subst (λ ls. NoneEmpty (remove ls at)) (sym c.remove_at.ensures.rest) (others_after (λ (l : List IndexEntry). 1 ≤ length l) leaves at (without_entry key (get_or leaves at [])) low c.requires.none_empty)
 
 pub returns-clause-held : goal.returns-clause-held
 returns-clause-held c =
@@ -79,7 +80,7 @@ returns-clause-rest c =
     let at = c.first_reaching-at.result in
     let first = c.first_reaching-at.ensures.value ∙ ap (first_reaching key) c.deref.ensures.value in
     let bound = c.first_reaching-at.ensures.bound in
-    let same = ap (λ (ls : List (List Entry)). length ls) c.deref.ensures.value in
+    let same = ap (λ (ls : List (List IndexEntry)). length ls) c.deref.ensures.value in
     let length_is = c.len.ensures in
     let other = c.if-at-len.false in
     let low : at < length leaves = omega arith in

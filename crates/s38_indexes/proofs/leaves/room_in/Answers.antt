@@ -1,7 +1,7 @@
 use Rattle.std.proofs.Common.{◌∙◌, ◌+◌, ap, get_or, []}
 use Rattle.std.specs.Prelude.{if◌then◌else◌}
 use Rattle.s38_indexes.specs.Leaves.{reaches}
-use Rattle.s38_indexes.proofs.LeafLaws.{either_half, same_entries}
+use Rattle.s38_indexes.proofs.SplitLaws.{either_half, same_entries}
 use Rattle.s38_indexes.proofs.leaves.room_in.Goals as goal
 
 pub returns-in-Ok-clause-place : goal.returns-in-Ok-clause-place

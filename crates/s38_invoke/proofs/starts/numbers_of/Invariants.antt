@@ -1,5 +1,5 @@
 use Rattle.std.proofs.Common.{◌≡◌, take}
-use Rattle.s38_rules.specs.Effect.{numbers_of}
+use Rattle.s38_rules.specs.step.Effect.{numbers_of}
 use Rattle.s38_invoke.proofs.starts.numbers_of.Given as goal
 
 abbrev pub invariant-loop-name : goal.invariant-loop-name

@@ -1,5 +1,5 @@
 use Rattle.std.proofs.Common.{◌≡◌, ◌+◌, ◌≤◌, ◌++◌, drop, length}
-use Rattle.s38_rules.specs.Users.{adopted, frame_header}
+use Rattle.s38_rules.specs.ask.Users.{adopted, frame_header}
 use Rattle.s38_invoke.proofs.users.adopt.Given as goal
 
 abbrev pub invariant-loop-k : goal.invariant-loop-k

@@ -5,12 +5,12 @@ use Rattle.std.specs.Io.KnownBytes.{Consumes}
 use Rattle.s38_io.specs.Source.{AddsPiece}
 use Rattle.s38_io.proofs.read.read_to_end.Goals as goal
 
--- the bytes that the failing piece lost stood behind those that came
+-- the bytes that the failing piece lost came after the others
 pub returns-in-Err-add_piece-clause-front : goal.returns-in-Err-add_piece-clause-front
 returns-in-Err-add_piece-clause-front g c =
     (_, Consumes-trans _ _ _ _ _ c.pieces.invariant.taken c.add_piece.ensures.front.1)
 
--- a piece that came behind the others
+-- a piece that came after the others
 with_piece : (a b c : Option (List ℕ)) (before after : List ℕ) (room n : ℕ) → Consumes a b before → AddsPiece b c before after room n → Consumes a c after
 with_piece a b c before after room n taken more =
     let all : before ++ drop (length before) after ≡ after =

@@ -7,7 +7,7 @@ use Rattle.s38_io.proofs.std_sink.write_whole.Goals as goal
 pub loop-init : goal.loop-init
 loop-init g c = Written-none _ _
 
--- the range behind the bytes that were taken
+-- the range after the bytes that were taken
 drop-range : (n : ℕ) (rest : List ℕ) → n ≤ length rest → take (length rest - n) (drop n rest) ≡ drop n rest
 drop-range n rest within = grind (arith, common_steps)
 

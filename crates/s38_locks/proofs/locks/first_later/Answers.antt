@@ -1,7 +1,7 @@
 use Rattle.std.proofs.Common.{rules}
 use Rattle.std.proofs.lemmas.List.Sorted.{IsPartitionedBy-leb, IsPartitionPoint-from_clause}
 use Rattle.std.specs.Prelude.{nat_le}
-use Rattle.s38_locks.specs.Locks.{place}
+use Rattle.s38_locks.specs.Locks.{lock_place}
 use Rattle.s38_locks.proofs.SearchLaws.{later_found}
 use Rattle.s38_locks.proofs.locks.first_later.Goals as goal
 
@@ -11,4 +11,4 @@ returns-clause-value c =
     let xs = c.args.locks.now in
     let n = c.partition_point.result in
     later_found lock xs n c.partition_point.ensures.bound
-    (IsPartitionPoint-from_clause (λ other. nat_le (place other) (place lock)) xs n c.partition_point.ensures.partitioned (IsPartitionedBy-leb place xs (place lock) c.requires) (λ a r q k. search rules))
+    (IsPartitionPoint-from_clause (λ other. nat_le (lock_place other) (lock_place lock)) xs n c.partition_point.ensures.partitioned (IsPartitionedBy-leb lock_place xs (lock_place lock) c.requires) (λ a r q k. search rules))

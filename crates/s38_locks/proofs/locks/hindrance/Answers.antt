@@ -1,6 +1,6 @@
 use Rattle.std.proofs.Common.{refl, sym, ◌∙◌}
 use Rattle.std.proofs.lemmas.List.Sorted.{IsNonDecreasingBy-drop}
-use Rattle.s38_locks.specs.Locks.{hinders, place}
+use Rattle.s38_locks.specs.Locks.{hinders, lock_place}
 use Rattle.s38_locks.proofs.SearchLaws.{none_left, run_falls, run_found, run_passed}
 use Rattle.s38_locks.proofs.locks.hindrance.Goals as goal
 
@@ -21,7 +21,7 @@ pub loop-lock-preserved : goal.loop-lock-preserved
 loop-lock-preserved c =
     let fails = sym c.hinders.ensures ∙ c.if-hinders.false in
     let passed = run_passed (hinders c.args.process c.args.state) c.in-Some.lock.now c.loop-lock.rest.now c.in-Some.ensures.value c.loop-lock.invariant.0 fails in
-    rw c.later_than-rest.ensures (IsNonDecreasingBy-drop place _ c.loop-lock.rest.now c.loop-lock.invariant.0, passed ∙ c.loop-lock.invariant.1)
+    rw c.later_than-rest.ensures (IsNonDecreasingBy-drop lock_place _ c.loop-lock.rest.now c.loop-lock.invariant.0, passed ∙ c.loop-lock.invariant.1)
 
 pub returns : goal.returns
 returns c = none_left (hinders c.args.process c.args.state) c.loop-lock.rest.now c.in_default.ensures.value ∙ c.loop-lock.invariant.1

@@ -3,7 +3,7 @@ use Rattle.std.proofs.lemmas.List.{take_all}
 use Rattle.std.proofs.lemmas.List.Sorted.{IsNonDecreasingBy-drop, IsNonDecreasingBy-take}
 use Rattle.std.specs.Prelude.{find}
 use Rattle.std.specs.Option.{option_copied}
-use Rattle.s38_locks.specs.Locks.{Lock, hinders, place}
+use Rattle.s38_locks.specs.Locks.{Lock, hinders, lock_place}
 use Rattle.s38_locks.proofs.OrderLaws.{found_first, found_later}
 use Rattle.s38_locks.proofs.refusals.hindrance_beside.Goals as goal
 
@@ -18,7 +18,7 @@ returns-in-None c =
     found_later (hinders c.args.process c.args.state) (take c.args.at xs) (drop (suc c.args.at) xs) _ (ap option_copied (sym c.in-None.is) ∙ c.hindrance.ensures) (c.hindrance-in-None.ensures ∙ ap (λ (ys : List Lock). find (hinders c.args.process c.args.state) ys) (rw add-one (take_all _ _ (omega (arith, length-drop {A = Lock})))))
 
 pub hindrance-requires : goal.hindrance-requires
-hindrance-requires c = IsNonDecreasingBy-take place c.args.at c.args.locks.now c.requires.order
+hindrance-requires c = IsNonDecreasingBy-take lock_place c.args.at c.args.locks.now c.requires.order
 
 pub hindrance-requires-in-None : goal.hindrance-requires-in-None
-hindrance-requires-in-None c = IsNonDecreasingBy-take place _ _ (IsNonDecreasingBy-drop place _ c.args.locks.now c.requires.order)
+hindrance-requires-in-None c = IsNonDecreasingBy-take lock_place _ _ (IsNonDecreasingBy-drop lock_place _ c.args.locks.now c.requires.order)

@@ -1,6 +1,6 @@
 use Rattle.std.proofs.Common.{sym, ap, ◌∙◌}
 use Rattle.s38_journals.specs.Journals.{JournalList, forced as forced_journal}
-use Rattle.s38_rules.specs.Parts.{journal_part, over_part}
+use Rattle.s38_rules.specs.state.Parts.{journal_part, over_part}
 use Rattle.s38_rules.proofs.PartLaws.{part_kept, part_written}
 use Rattle.s38_machine.proofs.storing.keep_journal.Goals as goal
 

@@ -1,7 +1,7 @@
 use Rattle.std.proofs.Common.{subst, sym}
-use Rattle.s38_rules.specs.Held.{Held}
-use Rattle.s38_rules.specs.Kept.{Mirrors}
-use Rattle.s38_extents.specs.Forcings.{all_forced}
+use Rattle.s38_rules.specs.state.Held.{Held}
+use Rattle.s38_rules.specs.state.Kept.{Mirrors}
+use Rattle.s38_space_map.specs.Forcings.{all_forced}
 use Rattle.s38_machine.proofs.StoredLaws.{all_mirrored}
 use Rattle.s38_machine.proofs.storing.keep_these.Goals as goal
 

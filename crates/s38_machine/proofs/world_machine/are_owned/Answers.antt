@@ -1,8 +1,8 @@
 use Rattle.std.proofs.Common.{ap, subst}
 use Rattle.s38_machine.proofs.BegunLaws.{owned_by}
-use Rattle.s38_rules.specs.Held.{Held}
-use Rattle.s38_rules.specs.State.{State}
-use Rattle.s38_verified.specs.Places.{AreOwned}
+use Rattle.s38_rules.specs.state.Held.{Held}
+use Rattle.s38_rules.specs.state.State.{State}
+use Rattle.s38_rights_cache.specs.Places.{AreOwned}
 use Rattle.s38_machine.proofs.world_machine.are_owned.Goals as goal
 
 pub returns : goal.returns

@@ -5,7 +5,7 @@ use Rattle.std.proofs.lemmas.List.Elements.{All-set}
 use Rattle.std.proofs.lemmas.Bool.Decides.{nat_tests}
 use Rattle.s38_memory.specs.declared.cell.Cell.{Cell}
 use Rattle.s38_memory.specs.Cell.{IsCell}
-use Rattle.s38_memory.specs.Tagged.{written}
+use Rattle.s38_memory.specs.Tagged.{cells_written}
 use Rattle.s38_memory.proofs.Writing.{written-nil, written-more}
 use Rattle.s38_memory.proofs.storage.write.Goals as goal
 
@@ -23,10 +23,10 @@ loop-rest-preserved c =
     }
 
 -- the whole piece was written
-all_written : (at : ℕ) (piece : List ℕ) (cells : List Cell) (m : ℕ) (rest : List ℕ) (now : List Cell) → length rest ≡ 0 → written m rest now ≡ written at piece cells
-    → now ≡ written at piece cells
+all_written : (at : ℕ) (piece : List ℕ) (cells : List Cell) (m : ℕ) (rest : List ℕ) (now : List Cell) → length rest ≡ 0 → cells_written m rest now ≡ cells_written at piece cells
+    → now ≡ cells_written at piece cells
 all_written at piece cells m rest now none same =
-    sym (ap (λ p. written m p now) (nil_from_length rest none) ∙ written-nil m now) ∙ same
+    sym (ap (λ p. cells_written m p now) (nil_from_length rest none) ∙ written-nil m now) ∙ same
 
 pub returns-clause-written : goal.returns-clause-written
 returns-clause-written c = all_written c.args.at c.args.piece.now c.args.cells.now _ c.loop-rest.rest.now c.loop-rest.cells (grind (arith, nat_tests)) c.loop-rest.invariant.to_come

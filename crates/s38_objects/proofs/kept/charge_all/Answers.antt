@@ -2,8 +2,8 @@ use Rattle.std.proofs.Common.{ℕ, ◌+◌, List, ap, map, refl, rules, subst, s
 use Rattle.std.specs.Map.Iter.{deref}
 use Rattle.s38_profiles.specs.Users.{charge_in as charge_of, user_at}
 use Rattle.s38_rules.specs.declared.object.Object.{Object}
-use Rattle.s38_rules.specs.Held.{charge_in}
-use Rattle.s38_rules.specs.Keeping.{AreUsers}
+use Rattle.s38_rules.specs.state.Held.{charge_in}
+use Rattle.s38_rules.specs.state.Keeping.{AreUsers}
 use Rattle.s38_objects.proofs.KeptLaws.{all_gone, at_hand, charge_fits, charged_more, none_charged, one_more}
 use Rattle.s38_objects.proofs.kept.charge_all.Goals as goal
 

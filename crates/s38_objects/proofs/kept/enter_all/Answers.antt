@@ -1,7 +1,7 @@
 use Rattle.std.proofs.Common.{List, map, rules, subst, sym}
 use Rattle.std.specs.Map.Iter.{deref}
 use Rattle.s38_rules.specs.declared.object.Object.{Object}
-use Rattle.s38_rules.specs.Keeping.{AreUsers}
+use Rattle.s38_rules.specs.state.Keeping.{AreUsers}
 use Rattle.s38_objects.proofs.KeptLaws.{absent_more, all_gone, at_hand, entered_more, fresh_at, one_more}
 use Rattle.s38_objects.proofs.kept.enter_all.Goals as goal
 

@@ -1,7 +1,7 @@
 use Rattle.std.proofs.Common.{List, map, rules, subst, sym}
 use Rattle.std.specs.Map.Iter.{deref}
 use Rattle.s38_rules.specs.declared.object.Object.{Object}
-use Rattle.s38_rules.specs.Keeping.{AreKeptRows}
+use Rattle.s38_rules.specs.state.Keeping.{AreKeptRows}
 use Rattle.s38_objects.proofs.KeptLaws.{all_gone, at_hand, fresh_at, no_rows_yet, one_more, rows_more}
 use Rattle.s38_objects.proofs.kept.set_all_rows.Goals as goal
 

@@ -1,6 +1,6 @@
 use Rattle.std.proofs.Common.{◌≡◌, map}
 use Rattle.std.specs.Map.Iter.{deref}
-use Rattle.s38_rules.specs.Keeping.{AreKeptRows}
+use Rattle.s38_rules.specs.state.Keeping.{AreKeptRows}
 use Rattle.s38_objects.proofs.kept.set_all_rows.Given as goal
 
 abbrev pub invariant-loop-object : goal.invariant-loop-object

@@ -1,7 +1,7 @@
 use Rattle.std.proofs.Common.{◌≡◌, ℕ, ◌==◌, cond, take}
 use Rattle.s38_profiles.specs.Rows.{row_at, row_key}
-use Rattle.s38_rules.specs.Kept.{kept_row}
-use Rattle.s38_rules.specs.PrivateRows.{row_of}
+use Rattle.s38_rules.specs.state.Kept.{kept_row}
+use Rattle.s38_rules.specs.state.PrivateRows.{row_of}
 use Rattle.s38_objects.proofs.kept.set_rows.Given as goal
 
 abbrev pub invariant-loop-row : goal.invariant-loop-row

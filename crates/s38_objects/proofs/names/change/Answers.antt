@@ -1,6 +1,6 @@
 use Rattle.std.proofs.Common.{◌≡◌, true, false, sym, ◌∙◌}
 use Rattle.std.specs.Prelude.{Some}
-use Rattle.s38_rules.specs.Held.{is_named}
+use Rattle.s38_rules.specs.state.Held.{is_named}
 use Rattle.s38_objects.proofs.PlaceLaws.{renamed_left, renamed_same}
 use Rattle.s38_objects.proofs.names.change.Goals as goal
 

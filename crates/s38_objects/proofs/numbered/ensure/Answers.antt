@@ -1,5 +1,5 @@
 use Rattle.std.proofs.Common.{ap, refl}
-use Rattle.s38_rules.specs.Held.{kept_on_disk}
+use Rattle.s38_rules.specs.state.Held.{kept_on_disk}
 use Rattle.s38_objects.proofs.NumberLaws.{object_missing, object_written}
 use Rattle.s38_objects.proofs.numbered.ensure.Goals as goal
 

@@ -1,5 +1,5 @@
 use Rattle.std.proofs.Common.{ap}
-use Rattle.s38_rules.specs.Parts.{over_object, profile_part}
+use Rattle.s38_rules.specs.state.Parts.{over_object, profile_part}
 use Rattle.s38_objects.proofs.NumberLaws.{object_missing, object_written}
 use Rattle.s38_objects.proofs.numbered.set_profile.Goals as goal
 

@@ -1,6 +1,6 @@
 use Rattle.std.proofs.Common.{ap, refl}
-use Rattle.s38_rules.specs.Standing.{open_to_all}
-use Rattle.s38_objects.specs.Changes.{restood}
+use Rattle.s38_rules.specs.state.Access.{open_to_all}
+use Rattle.s38_objects.specs.Changes.{with_changed_standing}
 use Rattle.s38_objects.proofs.NumberLaws.{object_missing, object_written}
 use Rattle.s38_objects.proofs.numbered.set_public.Goals as goal
 
@@ -8,8 +8,8 @@ pub returns-in-Some : goal.returns-in-Some
 returns-in-Some c =
     let o = c.in-Some.object.now in
     let x = record o { public = c.args.rights } in
-    object_written c.args.number (restood (open_to_all c.args.rights)) o x c.args.objects.now.entries _ c.in-Some.ensures.value (c.get_mut.follows.holds x).0 refl
+    object_written c.args.number (with_changed_standing (open_to_all c.args.rights)) o x c.args.objects.now.entries _ c.in-Some.ensures.value (c.get_mut.follows.holds x).0 refl
 
 pub returns-in_default : goal.returns-in_default
 returns-in_default c =
-    object_missing c.args.number (restood (open_to_all c.args.rights)) c.args.objects.now.entries _ c.in_default.ensures.value (ap (λ m. m.entries) c.get_mut.follows.holds-at-none)
+    object_missing c.args.number (with_changed_standing (open_to_all c.args.rights)) c.args.objects.now.entries _ c.in_default.ensures.value (ap (λ m. m.entries) c.get_mut.follows.holds-at-none)

@@ -1,5 +1,5 @@
 use Rattle.std.proofs.Common.{◌≡◌, false, sym, ◌∙◌}
-use Rattle.s38_base.specs.Scalar.{is_numeric}
+use Rattle.s38_base.specs.Attributes.{is_numeric}
 use Rattle.s38_odt.proofs.HeldLaws.{number_held-large, number_held-other}
 use Rattle.s38_odt.proofs.image.number_held.Goals as goal
 

@@ -6,12 +6,12 @@ use Rattle.s38_vault.specs.Content.{Content}
 use Rattle.s38_vault.specs.Directory.{keys_of}
 use Rattle.s38_vault.specs.Keys.{key_cmp}
 use Rattle.s38_disk.specs.Disk.{DiskView, IsAt}
-use Rattle.s38_disk.specs.Moves.{Ends, Moves}
-use Rattle.s38_blocks.specs.declared.layout.Layout.{Layout}
-use Rattle.s38_blocks.specs.declared.layout.Slot.{Slot}
-use Rattle.s38_blocks.specs.Store.{IsLayout}
+use Rattle.s38_disk.specs.Moves.{Moves, MovesBy}
+use Rattle.s38_redo_log.specs.declared.layout.Layout.{Layout}
+use Rattle.s38_redo_log.specs.declared.layout.Slot.{Slot}
+use Rattle.s38_redo_log.specs.Store.{IsLayout}
 use Rattle.s38_pages.specs.Formats.{Fills, IsMade, IsMaking, first_content}
-use Rattle.s38_pages.specs.Index.{AreApart, Homes, Planned, marked, parts_of}
+use Rattle.s38_pages.specs.Index.{HaveOwnHomes, Homes, Planned, home_count, marked}
 use Rattle.s38_pages.specs.Mounts.{layout_of}
 use Rattle.s38_pages.specs.Vaults.{HoldsNow, IsVault}
 use Rattle.s38_pages.proofs.Finishing.{is_layout, only_read, opened_vault}
@@ -24,8 +24,8 @@ use Rattle.s38_pages.proofs.formatting.create.Goals as goal
 along : {v w : DiskView} (lay : Layout) (m : Content) (xs ys : List Slot) → xs ≡ ys → Fills lay ys m → ((n : Content) → Fills lay xs n → Moves v w (lay.size + length xs + 3) (IsMaking lay n)) → Moves v w (lay.size + length ys + 3) (IsMaking lay m)
 along {v} {w} lay m xs ys e fills moves = subst (λ zs. Moves v w (lay.size + length zs + 3) (IsMaking lay m)) e (moves m (subst (λ zs. Fills lay zs m) (sym e) fills))
 
-ends : (v w : DiskView) (lay : Layout) (xs ys : List Slot) → xs ≡ ys → Ends v w (λ s t. IsMade lay xs t) → Ends v w (λ s t. IsMade lay ys t)
-ends v w lay xs ys e f = subst (λ zs. Ends v w (λ s t. IsMade lay zs t)) e f
+ends : (v w : DiskView) (lay : Layout) (xs ys : List Slot) → xs ≡ ys → MovesBy v w (λ s t. IsMade lay xs t) → MovesBy v w (λ s t. IsMade lay ys t)
+ends v w lay xs ys e f = subst (λ zs. MovesBy v w (λ s t. IsMade lay zs t)) e f
 
 pub returns-in_err-layout-clause-moves : goal.returns-in_err-layout-clause-moves
 returns-in_err-layout-clause-moves g c = only_read _ _ c.choose_layout.ensures.size c.choose_layout.ensures.cause.later c.choose_layout.ensures.past
@@ -39,7 +39,7 @@ plan-requires-clause-free g c =
     let homes = c.in_ok-made.made.homes.values in
     let few = new_few (keys_of homes) c.args.first.now in
     let none = ap (λ (h : Homes). len h) c.in_ok-made.ensures.homes ∙ len-empty key_cmp _ in
-    let parts : parts_of lay ≡ parts_of (layout_of (g.D.Disk.view c.args.disk.now).size) = ap parts_of c.in_ok-layout.ensures.layout in
+    let parts : home_count lay ≡ home_count (layout_of (g.D.Disk.view c.args.disk.now).size) = ap home_count c.in_ok-layout.ensures.layout in
     omega (arith, few, none, parts, c.in_ok-made.ensures.keeps.parts, c.in_ok-layout.ensures.large, c.requires.few)
 
 pub give_back-requires-clause-apart : goal.give_back-requires-clause-apart
@@ -47,7 +47,7 @@ give_back-requires-clause-apart g c =
     let lay = c.in_ok-layout.layout in
     let keeps = c.in_ok-made.ensures.keeps in
     let p = c.plan.ensures.planned lay keeps.free keeps.index in
-    subst AreApart (sym c.deref-2.ensures.value) (homes_apart lay c.plan.new.slots.items p.homes)
+    subst HaveOwnHomes (sym c.deref-2.ensures.value) (homes_apart lay c.plan.new.slots.items p.homes)
 
 pub returns-in_err-write_store-clause-moves : goal.returns-in_err-write_store-clause-moves
 returns-in_err-write_store-clause-moves g c =

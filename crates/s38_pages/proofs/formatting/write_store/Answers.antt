@@ -1,6 +1,6 @@
 use Rattle.std.proofs.Common.{◌+◌, arith, length}
 use Rattle.s38_disk.proofs.Runs.{weaker}
-use Rattle.s38_blocks.proofs.CommitLemmas.{homes_below}
+use Rattle.s38_redo_log.proofs.CommitLemmas.{homes_below}
 use Rattle.s38_pages.specs.Formats.{IsMaking}
 use Rattle.s38_pages.proofs.Making.{blanked, both_runs, filled, homes_making, label_making, made, zeros_making}
 use Rattle.s38_pages.proofs.formatting.write_store.Goals as goal

@@ -3,8 +3,8 @@ use Rattle.std.proofs.Math.ListN.{length-set}
 use Rattle.std.proofs.lemmas.Bool.{and_parts, both_ways}
 use Rattle.std.proofs.lemmas.List.{take_all}
 use Rattle.s38_disk.specs.Disk.{IsAt}
-use Rattle.s38_blocks.specs.Store.{AreHomes, is_home, log_count, log_of, targets}
-use Rattle.s38_blocks.proofs.CommitLemmas.{home_below}
+use Rattle.s38_redo_log.specs.Store.{AreHomes, is_home, log_count, log_of, targets}
+use Rattle.s38_redo_log.proofs.CommitLemmas.{home_below}
 use Rattle.s38_pages.specs.Index.{marked}
 use Rattle.s38_pages.proofs.Entries.{homes-last, log_length, log_more, seen_more}
 use Rattle.s38_pages.proofs.Finishing.{not_true}

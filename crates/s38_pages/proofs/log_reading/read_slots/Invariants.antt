@@ -1,7 +1,7 @@
 use Rattle.std.proofs.Common.{◌≡◌, ◌≤◌, ℕ, length, take}
 use Rattle.std.specs.Vec.{vec_capacity}
-use Rattle.s38_blocks.specs.Store.{AreHomes, log_count, log_of, targets}
-use Rattle.s38_disk.specs.Blocks.{State}
+use Rattle.s38_redo_log.specs.Store.{AreHomes, log_count, log_of, targets}
+use Rattle.s38_disk.specs.Blocks.{DiskState}
 use Rattle.s38_disk.specs.Disk.{IsAt}
 use Rattle.s38_pages.specs.Index.{marked}
 use Rattle.s38_pages.proofs.log_reading.read_slots.Given as goal
@@ -17,5 +17,5 @@ invariant-loop-k g l = record {
   homes : AreHomes l.layout l.slots.items;
   seen : (h : ℕ) → marked l.seen.items h ≡ targets l.slots.items h;
   seen_len : length l.seen.items ≡ l.layout.size;
-  read : (s : State) → IsAt (g.D.Disk.view l.initial.disk).past s → log_count s.now ≡ l.count → l.slots.items ≡ take l.k (log_of s.now);
+  read : (s : DiskState) → IsAt (g.D.Disk.view l.initial.disk).past s → log_count s.now ≡ l.count → l.slots.items ≡ take l.k (log_of s.now);
 }

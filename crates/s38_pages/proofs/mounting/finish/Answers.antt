@@ -1,7 +1,7 @@
 use Rattle.std.proofs.Common.{◌+◌, ◌∙◌, ap, length, subst, sym, arith}
 use Rattle.s38_disk.specs.Disk.{IsAt}
 use Rattle.s38_disk.proofs.Runs.{weaker}
-use Rattle.s38_blocks.specs.Store.{IsLog}
+use Rattle.s38_redo_log.specs.Store.{IsLog}
 use Rattle.s38_pages.specs.Mounts.{IsMounted}
 use Rattle.s38_pages.proofs.Finishing.{finished_redone, mounted_redone, moves_from, only_read}
 use Rattle.s38_pages.proofs.mounting.finish.Goals as goal

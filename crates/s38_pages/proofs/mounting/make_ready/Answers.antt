@@ -1,6 +1,6 @@
 use Rattle.std.proofs.Common.{◌+◌, ℕ, arith, subst}
 use Rattle.s38_disk.specs.declared.block.Block.{Block}
-use Rattle.s38_disk.specs.Blocks.{after}
+use Rattle.s38_disk.specs.Blocks.{after_calls}
 use Rattle.s38_disk.proofs.Runs.{now_at, weaker}
 use Rattle.s38_pages.specs.Mounts.{IsFinishFault, IsMounted}
 use Rattle.s38_pages.proofs.Finishing.{map_err, ready_ends, ready_moves}
@@ -29,5 +29,5 @@ returns-clause-refused g c =
     let m = c.settle.ensures.moves lay in
     map_err c.finish.result c.finish.ensures.refused (λ fault p s is.
     let at = now_at m s is in
-    let known = c.in_ok-settle.ensures.done s (after s m.calls) is at in
-    subst (λ (f : ℕ → Block). IsFinishFault lay f fault) known.1 (p (after s m.calls) at))
+    let known = c.in_ok-settle.ensures.done s (after_calls s m.calls) is at in
+    subst (λ (f : ℕ → Block). IsFinishFault lay f fault) known.1 (p (after_calls s m.calls) at))

@@ -1,11 +1,11 @@
 use Rattle.std.proofs.Common.{◌≡◌, ◌≤◌, ◌<◌, ◌^◌, ap, arith, subst, sym, true}
 use Rattle.std.specs.Vec.{vec_capacity}
-use Rattle.s38_disk.specs.Blocks.{after}
+use Rattle.s38_disk.specs.Blocks.{after_calls}
 use Rattle.s38_disk.specs.Disk.{IsAt}
 use Rattle.s38_disk.proofs.Runs.{now_at}
 use Rattle.s38_vault.specs.Content.{Content}
-use Rattle.s38_blocks.specs.declared.layout.Layout.{Layout}
-use Rattle.s38_blocks.specs.Store.{IsLayout, Stands}
+use Rattle.s38_redo_log.specs.declared.layout.Layout.{Layout}
+use Rattle.s38_redo_log.specs.Store.{IsLayout, RecoversTo}
 use Rattle.s38_pages.specs.Mounts.{IsIndexFault, IsMounted, IsReady, layout_of}
 use Rattle.s38_pages.specs.Vaults.{HoldsNow, IsVault}
 use Rattle.s38_pages.proofs.Finishing.{at_ok, each_ok, index_refused, is_layout, large_sized, map_err, only_read, opened_content, opened_tells, opened_vault}
@@ -40,7 +40,7 @@ returns-clause-content g c =
     let is : IsLayout lay = subst IsLayout (sym same) (is_layout size c.in_ok-layout.ensures.large) in
     let r = c.index_homes.result in
     each_ok _ r (λ opened e s at.
-    subst (λ (l : Layout). (m : Content) × (Stands l s.now m × HoldsNow l x true m)) same
+    subst (λ (l : Layout). (m : Content) × (RecoversTo l s.now m × HoldsNow l x true m)) same
     (opened_content x lay is c.make_ready.ensures.moves c.index_homes.ensures.past opened.homes.values (λ t at_t. c.in_ok-layout.ensures.label t (subst (λ p. IsAt p t) c.locate.ensures.past at_t)) c.in_ok-make_ready.ensures.done
     (at_ok _ r opened e c.index_homes.ensures.scanned) s (subst (λ p. IsAt p s) (sym c.locate.ensures.past) at)))
 
@@ -53,7 +53,7 @@ returns-clause-refused g c =
     map_err c.index_homes.result c.index_homes.ensures.refused (λ fault p s is.
     let here = subst (λ q. IsAt q s) (sym c.locate.ensures.past) is in
     let at = now_at m s here in
-    let t = after s m.calls in
+    let t = after_calls s m.calls in
     index_refused size s t fault c.in_ok-layout.ensures.large (c.in_ok-layout.ensures.label s is) (subst (λ (l : Layout). IsReady l s t) same (c.in_ok-make_ready.ensures.done s t here at))
     (subst (λ (l : Layout). IsIndexFault l t.now fault) same (p t at)))
 

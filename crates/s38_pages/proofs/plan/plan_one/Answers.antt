@@ -1,8 +1,8 @@
 use Rattle.std.proofs.Common.{◌≡◌, List, Bool, true, not, Some, None, slice_set, ◌∙◌, ap, subst, sym, arith}
 use Rattle.std.specs.FinMap.{get}
 use Rattle.s38_base.specs.declared.page.Change.{Change}
-use Rattle.s38_blocks.specs.declared.layout.Slot.{Slot}
-use Rattle.s38_blocks.specs.declared.layout.Layout.{Layout}
+use Rattle.s38_redo_log.specs.declared.layout.Slot.{Slot}
+use Rattle.s38_redo_log.specs.declared.layout.Layout.{Layout}
 use Rattle.s38_pages.specs.Index.{Homes, Index, Planned, Tallied, marked}
 use Rattle.s38_pages.proofs.Marking.{more_marked, set_there}
 use Rattle.s38_pages.proofs.Planning.{planned_over, planned_new, planned_gone, planned_none, used_block, with_itself}

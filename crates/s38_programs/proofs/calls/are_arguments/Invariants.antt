@@ -1,5 +1,5 @@
 use Rattle.std.proofs.Common.{◌≡◌, drop}
-use Rattle.s38_rules.specs.Programs.{are_arguments, parameters_in}
+use Rattle.s38_rules.specs.families.Calls.{are_arguments, parameters_in}
 use Rattle.s38_programs.proofs.calls.are_arguments.Given as goal
 
 abbrev pub invariant-loop-row : goal.invariant-loop-row

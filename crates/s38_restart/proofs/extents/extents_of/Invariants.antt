@@ -1,5 +1,5 @@
 use Rattle.std.proofs.Common.{◌≡◌, map, take}
-use Rattle.s38_durable.specs.Following.{extent_in}
+use Rattle.s38_durable_state.specs.Following.{extent_in}
 use Rattle.s38_restart.proofs.extents.extents_of.Given as goal
 
 abbrev pub invariant-loop-one : goal.invariant-loop-one

@@ -1,7 +1,7 @@
 use Rattle.std.proofs.Common.{List, ap, drop, length, map, ◌∙◌}
 use Rattle.std.proofs.lemmas.List.{take_at}
 use Rattle.std.proofs.lemmas.Result.{IfOk-weaker}
-use Rattle.s38_groups.specs.Readings.{object_in_stored}
+use Rattle.s38_restart.specs.catalog.Readings.{object_in_stored}
 use Rattle.s38_image.specs.declared.stored.Stored.{Stored}
 use Rattle.s38_restart.specs.Restarted.{all_followed, imaged}
 use Rattle.s38_restart.proofs.RestartLaws.{followed_objects}

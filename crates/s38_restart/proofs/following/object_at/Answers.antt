@@ -1,7 +1,7 @@
 use Rattle.std.proofs.Common.{Bor, ap, sym, ◌∙◌}
 use Rattle.std.specs.Prelude.{Option}
 use Rattle.std.specs.Option.{option_copied, option_map}
-use Rattle.s38_groups.specs.Readings.{object_in_stored}
+use Rattle.s38_restart.specs.catalog.Readings.{object_in_stored}
 use Rattle.s38_image.specs.declared.stored.Stored.{Stored}
 use Rattle.s38_restart.proofs.FollowLaws.{object_found}
 use Rattle.s38_restart.proofs.following.object_at.Goals as goal

@@ -1,5 +1,5 @@
 use Rattle.std.proofs.Common.{◌≡◌, map}
-use Rattle.s38_groups.specs.Readings.{object_in_stored}
+use Rattle.s38_restart.specs.catalog.Readings.{object_in_stored}
 use Rattle.s38_restart.proofs.following.objects_of.Given as goal
 
 abbrev pub invariant-loop-one : goal.invariant-loop-one

@@ -1,7 +1,7 @@
 use Rattle.std.proofs.Common.{◌∙◌, ◌+◌, ap, arith, drop}
 use Rattle.std.proofs.lemmas.Result.{on_ok_weaker}
 use Rattle.s38_dataspaces.specs.Table.{DataTable}
-use Rattle.s38_journals.specs.Entries.{entered}
+use Rattle.s38_journals.specs.Entries.{logged_entry}
 use Rattle.s38_restart.specs.Redo.{redone_from}
 use Rattle.s38_restart.proofs.RedoLaws.{found_entry, no_entry, redone_next}
 use Rattle.s38_restart.proofs.journaled.redo_at.Goals as goal
@@ -18,5 +18,5 @@ returns c =
     let at = c.args.at in
     let found = found_entry es at c.get.result c.in-Some.entry c.get.ensures c.in-Some.is in
     on_ok_weaker c.redo_counted.result
-    (λ same. ap (λ (t : DataTable). redone_from number c.args.image es (at + 1 + 1) (drop (at + 1) es) t) same ∙ redone_next number c.args.image at es (entered c.in-Some.entry) c.args.space.now found)
+    (λ same. ap (λ (t : DataTable). redone_from number c.args.image es (at + 1 + 1) (drop (at + 1) es) t) same ∙ redone_next number c.args.image at es (logged_entry c.in-Some.entry) c.args.space.now found)
     c.redo_counted.ensures

@@ -2,7 +2,7 @@ use Rattle.std.proofs.Common.{◌≡◌, List, ap, subst, sym, ◌∙◌}
 use Rattle.std.specs.Prelude.{◌⊎◌}
 use Rattle.std.proofs.lemmas.Result.{err_from_is_err_and}
 use Rattle.s38_base.specs.declared.page.Change.{Change}
-use Rattle.s38_groups.specs.Groups.{removals}
+use Rattle.s38_restart.specs.catalog.Groups.{removals}
 use Rattle.s38_vault.specs.Content.{AreRising, HaveObjects, changed}
 use Rattle.s38_vault.specs.Vaults.{VaultView}
 use Rattle.s38_restart.specs.Parts.{AreParts}

@@ -1,15 +1,15 @@
 use Rattle.std.proofs.Common.{All, List, ℕ, ◌+◌, ◌<◌, ◌≤◌, ◌∙◌, ap, arith, map, subst, sym}
 use Rattle.std.specs.List.Sorted.{IsStrictlyIncreasing}
 use Rattle.s38_base.specs.Limits.{ceiling_step, last_number}
-use Rattle.s38_objects.specs.Lawful.{IsLawful}
+use Rattle.s38_objects.specs.Lawful.{IsObjectMap}
 use Rattle.s38_rules.specs.declared.object.Object.{Object}
-use Rattle.s38_durable.specs.Following.{extent_in}
-use Rattle.s38_extents.specs.Extents.{AreRising}
+use Rattle.s38_durable_state.specs.Following.{extent_in}
+use Rattle.s38_space_map.specs.Extents.{AreRising}
 use Rattle.s38_image.specs.declared.stored.Stored.{Stored}
-use Rattle.s38_rules.specs.Room.{Extent}
-use Rattle.s38_rules.specs.Storable.{IsStorable}
+use Rattle.s38_rules.specs.store.Room.{Extent}
+use Rattle.s38_rules.specs.store.Storable.{IsStorable}
 use Rattle.s38_base.specs.declared.page.Change.{Change}
-use Rattle.s38_groups.specs.Groups.{removals}
+use Rattle.s38_restart.specs.catalog.Groups.{removals}
 use Rattle.s38_restart.specs.Parts.{AreParts}
 use Rattle.s38_restart.proofs.CeilingBound.{ceiling_bound}
 use Rattle.s38_restart.proofs.ExtentLaws.{all_storable, extents_rise}
@@ -31,7 +31,7 @@ overflow_add-ceiling c =
 pub restored-requires-clause-lawful : goal.restored-requires-clause-lawful
 restored-requires-clause-lawful c =
     let n = c.in_ok-store.store.ceiling in
-    subst (λ (os : List Object). IsLawful (record { objects = os; next = n + 1; ceiling = n })) (sym c.in_ok-objects.ensures) (followed_lawful n c.in_ok-store.store.stored.items c.in_ok-store.ensures.lawful)
+    subst (λ (os : List Object). IsObjectMap (record { objects = os; next = n + 1; ceiling = n })) (sym c.in_ok-objects.ensures) (followed_lawful n c.in_ok-store.store.stored.items c.in_ok-store.ensures.lawful)
 
 pub restored-requires-clause-placed : goal.restored-requires-clause-placed
 restored-requires-clause-placed c =

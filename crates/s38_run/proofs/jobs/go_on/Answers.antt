@@ -1,7 +1,8 @@
 use Rattle.std.proofs.Common.{arith}
 use Rattle.s38_code.specs.declared.step.StepFault.TheVariants.{Stopped}
 use Rattle.s38_run.proofs.EndLaws.{handed_on}
-use Rattle.s38_run.proofs.TurnLaws.{at_job, came_off, came_off_behind, came_to_halt, going, may_ask, read_listed, took_count, went_listed, within_jobs}
+use Rattle.s38_run.proofs.TurnLaws.{came_off, came_off_after, came_to_halt, going, may_ask, took_count, went_listed}
+use Rattle.s38_run.proofs.ListedJobs.{at_job, read_listed, within_jobs}
 use Rattle.s38_run.proofs.jobs.go_on.Goals as goal
 
 pub overflow_sub-at : goal.overflow_sub-at
@@ -62,7 +63,7 @@ pub returns-in-Err-update-clause-came_off : goal.returns-in-Err-update-clause-ca
 returns-in-Err-update-clause-came_off g c =
     let at = at_job c.args.made.now c.args.jobs.now (g.M.RunMachine.run c.args.machine.now) c.args.states.now.items c.args.ready.now.items c.args.place c.index-number.result.now
     c.index-jobs-at.result c.index-made-at.result c.index_mut.result.now c.requires.between (omega arith) c.index-number.ensures c.index-jobs-at.is c.index-made-at.is c.index_mut.ensures.value in
-    came_off_behind at c.in-Ok.outcome (g.M.RunMachine.run c.take_turn.new.machine) c.take_turn.new.state c.in-Ok.ensures.took
+    came_off_after at c.in-Ok.outcome (g.M.RunMachine.run c.take_turn.new.machine) c.take_turn.new.state c.in-Ok.ensures.took
 
 pub returns-in-Ok-update-clause-went : goal.returns-in-Ok-update-clause-went
 returns-in-Ok-update-clause-went g c =

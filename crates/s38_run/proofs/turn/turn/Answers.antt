@@ -2,7 +2,7 @@ use Rattle.std.proofs.Common.{inl, sym, ◌∙◌, ap}
 use Rattle.s38_process.specs.Asked.{asked}
 use Rattle.s38_code.specs.declared.step.StepFault.TheVariants.{Stopped}
 use Rattle.s38_run.proofs.EndLaws.{handed_on}
-use Rattle.s38_run.proofs.Turning.{broke_before, broke_behind, is_there, not_answered, was_stopped, was_turned}
+use Rattle.s38_run.proofs.Turning.{broke_after, broke_before, is_there, not_answered, was_stopped, was_turned}
 use Rattle.s38_run.proofs.turn.turn.Goals as goal
 
 pub absorb_asked-requires-clause-replied : goal.absorb_asked-requires-clause-replied
@@ -25,7 +25,7 @@ returns-in-Err-ask-clause-stopped g c stop =
 pub returns-in-Err-absorb_asked-clause-broke : goal.returns-in-Err-absorb_asked-clause-broke
 returns-in-Err-absorb_asked-clause-broke g c =
     let S = g.M.RunMachine in
-    broke_behind c.args.number (S.run c.args.machine.now) (S.run c.ask.new.self) c.args.process.now c.in-Ok-Step.event (sym c.in-Ok-Step.ensures.asked ∙ ap asked c.in-Ok-Step.field-0-is) c.in-Ok.ensures.moved c.in-Ok.ensures.later
+    broke_after c.args.number (S.run c.args.machine.now) (S.run c.ask.new.self) c.args.process.now c.in-Ok-Step.event (sym c.in-Ok-Step.ensures.asked ∙ ap asked c.in-Ok-Step.field-0-is) c.in-Ok.ensures.moved c.in-Ok.ensures.later
 
 pub returns-in-Ok-absorb_asked-clause-turned : goal.returns-in-Ok-absorb_asked-clause-turned
 returns-in-Ok-absorb_asked-clause-turned g c =

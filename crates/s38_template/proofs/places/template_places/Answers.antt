@@ -1,5 +1,5 @@
 use Rattle.std.proofs.Common.{◌∙◌, arith}
-use Rattle.s38_template.proofs.Standing.{walked_more}
+use Rattle.s38_template.proofs.TemplatePlaces.{walked_more}
 use Rattle.s38_template.proofs.places.template_places.Goals as goal
 
 pub loop-at-preserved : goal.loop-at-preserved

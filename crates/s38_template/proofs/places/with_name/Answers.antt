@@ -1,5 +1,5 @@
 use Rattle.std.proofs.Common.{sym}
-use Rattle.s38_template.proofs.Standing.{new_place}
+use Rattle.s38_template.proofs.TemplatePlaces.{new_place}
 use Rattle.s38_template.proofs.places.with_name.Goals as goal
 
 pub returns-in-Ok : goal.returns-in-Ok

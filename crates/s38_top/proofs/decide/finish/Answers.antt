@@ -1,15 +1,16 @@
 use Rattle.std.proofs.Common.{◌≡◌, ◌∙◌, All, ap, arith, refl, subst, sym}
 use Rattle.s38_disk.specs.Disk.{DiskView, moment_of}
-use Rattle.s38_kept_laws.specs.Kept.{AreImages}
-use Rattle.s38_objects.specs.Lawful.{IsLawful}
-use Rattle.s38_openings.specs.Closing.{CanClose}
-use Rattle.s38_readable.specs.Readable.{IsFit}
-use Rattle.s38_rules.specs.State.{State}
-use Rattle.s38_step_parts.specs.Stepping.{HaveHeaders}
-use Rattle.s38_stores.specs.Crashes.{DuringCall, IsBetween}
-use Rattle.s38_stored_machine.proofs.StateLaws.{stored_fit}
-use Rattle.s38_top.proofs.OverLaws.{came_kept, came_stopped, closes, given_back, going_faultless, left_kept, left_off, reported_kept, reported_stopped, run_all, run_on, stopped_rose}
-use Rattle.s38_top.specs.Runs.{kept_of}
+use Rattle.s38_laws_flush.specs.durable.Kept.{AreImages}
+use Rattle.s38_objects.specs.Lawful.{IsObjectMap}
+use Rattle.s38_laws_images.specs.openings.Closing.{CanClose}
+use Rattle.s38_laws_images.specs.readable.Readable.{IsFit}
+use Rattle.s38_rules.specs.state.State.{State}
+use Rattle.s38_flush.specs.Stepping.{HaveHeaders}
+use Rattle.s38_store_file.specs.Crashes.{DuringCall, IsBetween}
+use Rattle.s38_durable_machine.proofs.StateLaws.{stored_fit}
+use Rattle.s38_top.proofs.OverLaws.{came_kept, came_stopped, left_kept, left_off, reported_kept, reported_stopped}
+use Rattle.s38_top.proofs.WentOverLaws.{closes, given_back, going_faultless, run_all, run_on, stopped_rose}
+use Rattle.s38_top.specs.Runs.{all_durable_of}
 use Rattle.s38_top.specs.declared.outcome.Outcome.TheVariants.{NoMemory}
 use Rattle.s38_top.specs.declared.outcome.Whole.{Whole}
 use Rattle.s38_top.proofs.decide.finish.Goals as goal
@@ -19,7 +20,7 @@ of_whole-requires-clause-end g c =
     let x = c.args.run.machine in
     let given = given_back x c.end-vault.result.vault c.end-vault-2.result c.end-vault.ensures.vault c.end-vault-2.ensures.vault c.end-vault-2.ensures.watched c.most-most.ensures.limits in
     subst CanClose (sym c.end-vault.ensures.state)
-    (closes c.args.turns c.args.run.deck x c.args.run.end c.requires c.end-vault-2.result given (subst (λ (s : State). IsLawful s.held) (c.state.view_is ∙ c.end-vault.ensures.state) c.len-objects.ensures.lawful))
+    (closes c.args.turns c.args.run.deck x c.args.run.end c.requires c.end-vault-2.result given (subst (λ (s : State). IsObjectMap s.held) (c.state.view_is ∙ c.end-vault.ensures.state) c.len-objects.ensures.lawful))
 
 pub of_whole-requires-clause-fit : goal.of_whole-requires-clause-fit
 of_whole-requires-clause-fit g c = subst (λ (s : State). All IsFit s.held.objects) (sym c.end-vault.ensures.state) (stored_fit c.args.run.machine.machine.state c.requires.sound.state)
@@ -50,10 +51,10 @@ returns-in-Complete-clause-left g c =
     (λ not. run_all c.args.turns c.args.run.deck x c.args.run.end c.requires c.end-vault-2.result given c.in-Complete.is)
     c.closing_laws.ensures
     c.in-Complete.is
-    (subst (λ (s : State). HaveHeaders (kept_of s)) c.end-vault.ensures.state c.of_whole.ensures.headers)
-    (subst (λ (s : State). AreImages (kept_of s)) c.end-vault.ensures.state c.of_whole.ensures.images)
+    (subst (λ (s : State). HaveHeaders (all_durable_of s)) c.end-vault.ensures.state c.of_whole.ensures.headers)
+    (subst (λ (s : State). AreImages (all_durable_of s)) c.end-vault.ensures.state c.of_whole.ensures.images)
     c.of_whole.ensures.goes
-    (λ m holds. subst (λ (s : State). DuringCall c.end-vault-2.result.disk new (IsBetween new.size m (kept_of s) s.held)) c.end-vault.ensures.state (c.of_whole.ensures.during m holds))
+    (λ m holds. subst (λ (s : State). DuringCall c.end-vault-2.result.disk new (IsBetween new.size m (all_durable_of s) s.held)) c.end-vault.ensures.state (c.of_whole.ensures.during m holds))
 
 pub returns-in-Stopped-clause-came : goal.returns-in-Stopped-clause-came
 returns-in-Stopped-clause-came g c =

@@ -3,7 +3,7 @@ use Rattle.s38_code.specs.declared.deck.Deck.{Deck}
 use Rattle.s38_command.specs.declared.turns.Turns.{Turns}
 use Rattle.s38_command.specs.declared.turns.Turns.TheVariants.{Serial}
 use Rattle.s38_pages.specs.Watched.{WatchedStore}
-use Rattle.s38_stored_machine.specs.Seen.{StoredBeginning}
+use Rattle.s38_durable_machine.specs.Seen.{StoredBeginning}
 use Rattle.s38_top.specs.Ends.{CameFrom, LeftOver}
 use Rattle.s38_top.specs.Stored.{WentOver}
 use Rattle.s38_top.proofs.decide.run_alone.Goals as goal

@@ -1,7 +1,7 @@
 use Rattle.std.proofs.Common.{ℕ, List, sym, ◌∙◌, ap, refl}
 use Rattle.std.specs.Prelude.{slice_get}
 use Rattle.s38_top.proofs.DeckLaws.{all_templates}
-use Rattle.s38_top.proofs.TopLaws.{bad_deck}
+use Rattle.s38_top.proofs.CauseLaws.{bad_deck}
 use Rattle.s38_top.proofs.prepare.checked_deck.Goals as goal
 
 pub returns-in-Err-Bad-clause-cause : goal.returns-in-Err-Bad-clause-cause

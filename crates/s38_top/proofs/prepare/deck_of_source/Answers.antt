@@ -1,4 +1,4 @@
-use Rattle.s38_top.proofs.TopLaws.{cause_of_text, read_of_text}
+use Rattle.s38_top.proofs.CauseLaws.{cause_of_text, read_of_text}
 use Rattle.s38_top.proofs.prepare.deck_of_source.Goals as goal
 
 pub returns-in-Ok-clause-read : goal.returns-in-Ok-clause-read

@@ -1,9 +1,9 @@
 use Rattle.std.proofs.Common.{ℕ, subst, ◌∙◌}
-use Rattle.s38_rules.specs.Held.{Held}
+use Rattle.s38_rules.specs.state.Held.{Held}
 use Rattle.s38_run.specs.Pickers.{number_after, number_answer}
 use Rattle.s38_top.specs.Begun.{IsWholeOf}
 use Rattle.s38_top.specs.Decks.{turns_by}
-use Rattle.s38_top.proofs.TopLaws.{demonstrated_of}
+use Rattle.s38_top.proofs.WholeRunLaws.{demonstrated_of}
 use Rattle.s38_top.proofs.prepare.of_demo.Goals as goal
 
 pub run_deck-requires-clause-has : goal.run_deck-requires-clause-has

@@ -1,6 +1,6 @@
 use Rattle.std.proofs.Common.{ℕ, List, subst, ◌∙◌}
 use Rattle.s38_command.specs.declared.command.Command.TheVariants.{Demo}
-use Rattle.s38_top.specs.Outcome.{OfText}
+use Rattle.s38_top.specs.Causes.{OfText}
 use Rattle.s38_top.proofs.prepare.of_generated.Goals as goal
 
 pub returns-in-Err : goal.returns-in-Err

@@ -5,7 +5,8 @@ use Rattle.s38_command.specs.declared.command.Command.TheVariants.{Check, Instal
 use Rattle.s38_command.specs.Commands.{AreTurnsOn, command_on}
 use Rattle.s38_top.specs.Outside.{outside}
 use Rattle.s38_top.proofs.SafeLaws.{safe_none, safe_of, unprepared_safe}
-use Rattle.s38_top.proofs.TopLaws.{asked_by, generated_holds, source_decided, source_holds, store_holds, turns_by_call}
+use Rattle.s38_top.proofs.CompleteLaws.{asked_by, source_decided, turns_by_call}
+use Rattle.s38_top.proofs.CauseLaws.{generated_holds, source_holds, store_holds}
 use Rattle.s38_top.proofs.prepare.prepare.Goals as goal
 
 pub returns-in-Jobs-clause-asked : goal.returns-in-Jobs-clause-asked

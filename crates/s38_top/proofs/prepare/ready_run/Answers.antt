@@ -1,6 +1,6 @@
 use Rattle.s38_command.specs.declared.command.Command.TheVariants.{Jobs}
 use Rattle.s38_top.proofs.SafeLaws.{keeps_none}
-use Rattle.s38_top.proofs.TopLaws.{cause_of_deck, deck_read}
+use Rattle.s38_top.proofs.CauseLaws.{cause_of_deck, deck_read}
 use Rattle.s38_top.proofs.prepare.ready_run.Goals as goal
 
 pub returns-in-Ok-clause-read : goal.returns-in-Ok-clause-read

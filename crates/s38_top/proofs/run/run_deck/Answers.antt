@@ -1,6 +1,6 @@
 use Rattle.s38_top.specs.Begun.{held_of}
 use Rattle.s38_top.specs.Decks.{turns_by}
-use Rattle.s38_top.proofs.TopLaws.{whole_at}
+use Rattle.s38_top.proofs.WholeRunLaws.{whole_at}
 use Rattle.s38_top.proofs.run.run_deck.Goals as goal
 
 pub returns : goal.returns

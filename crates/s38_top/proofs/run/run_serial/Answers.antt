@@ -1,10 +1,10 @@
 use Rattle.std.proofs.Common.{ap, ◌∙◌}
 use Rattle.std.specs.Prelude.{None}
-use Rattle.s38_rules.specs.Legal.{Run}
-use Rattle.s38_rules.specs.Opening.{state_of}
+use Rattle.s38_rules.specs.step.Legal.{Run}
+use Rattle.s38_rules.specs.state.Opening.{state_of}
 use Rattle.s38_run.proofs.JobLaws.{is_begun}
 use Rattle.s38_run.proofs.StillLaws.{still_begun, still_from}
-use Rattle.s38_top.proofs.TopLaws.{as_many_made, begins_run, few_begun, whole_of_run}
+use Rattle.s38_top.proofs.WholeRunLaws.{as_many_made, begins_run, few_begun, whole_of_run}
 use Rattle.s38_top.specs.Begun.{held_of}
 use Rattle.s38_top.specs.Decks.{turns_by}
 use Rattle.s38_top.proofs.run.run_serial.Goals as goal

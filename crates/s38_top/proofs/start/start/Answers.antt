@@ -1,6 +1,6 @@
 use Rattle.std.proofs.Common.{ap}
-use Rattle.s38_rules.specs.Legal.{Run}
-use Rattle.s38_top.proofs.TopLaws.{started_of}
+use Rattle.s38_rules.specs.step.Legal.{Run}
+use Rattle.s38_top.proofs.WholeRunLaws.{started_of}
 use Rattle.s38_top.proofs.start.start.Goals as goal
 
 pub returns-clause-held : goal.returns-clause-held

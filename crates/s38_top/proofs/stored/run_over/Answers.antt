@@ -1,10 +1,10 @@
 use Rattle.std.proofs.Common.{◌∙◌, ℕ, length, subst}
 use Rattle.s38_command.specs.declared.turns.Turns.TheVariants.{Serial}
-use Rattle.s38_rules.specs.State.{State}
+use Rattle.s38_rules.specs.state.State.{State}
 use Rattle.s38_run.specs.Picked.{Picked}
-use Rattle.s38_run.specs.Pickers.{behind_picks, number_after, number_answer, picks_of}
+use Rattle.s38_run.specs.Pickers.{after_picks, number_after, number_answer, picks_of}
 use Rattle.s38_run.specs.Whole.{WasHalted}
-use Rattle.s38_stored_machine.specs.Seen.{run_of, stopped_of}
+use Rattle.s38_durable_machine.specs.Seen.{run_of, stopped_of}
 use Rattle.s38_top.proofs.BegunLaws.{as_many, few_jobs, halted_stopped, run_begun, same_origin, went_over}
 use Rattle.s38_top.proofs.NextLaws.{halted_on}
 use Rattle.s38_top.proofs.stored.run_over.Goals as goal
@@ -34,4 +34,4 @@ returns-clause-went g c =
     e.by_program (λ is. (e.going is, e.ran is)) (λ is. let h = e.stopped is in halted_stopped y.ending y.machine.history (h.process, h.event) h.is)
     (λ is.
     halted_on made jobs c.args.pick y.ending y.machine picked e.by_program
-    (subst (λ (n : ℕ). WasHalted made jobs (number_answer (behind_picks number_after (length (run_of y).history) n)) (run_of y) (stopped_of y)) begins (e.stopped is)))
+    (subst (λ (n : ℕ). WasHalted made jobs (number_answer (after_picks number_after (length (run_of y).history) n)) (run_of y) (stopped_of y)) begins (e.stopped is)))

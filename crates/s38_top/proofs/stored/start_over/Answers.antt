@@ -1,5 +1,5 @@
 use Rattle.std.proofs.Common.{subst, sym}
-use Rattle.s38_readable.specs.Templates.{AreMade}
+use Rattle.s38_laws_images.specs.readable.Templates.{AreMade}
 use Rattle.s38_top.proofs.BegunLaws.{begun_held, begun_over, begun_room, begun_vault, can_start, fits_start}
 use Rattle.s38_top.proofs.stored.start_over.Goals as goal
 

@@ -4,8 +4,8 @@ use Rattle.std.specs.Option.{option_map}
 use Rattle.s38_base.specs.declared.id.ObjNum.{ObjNum}
 use Rattle.s38_commits.specs.Units.{above, next_block}
 use Rattle.s38_commits.proofs.WalkLaws.{next_above}
-use Rattle.s38_rules.specs.State.{State}
-use Rattle.s38_rules.specs.Units.{all_decommitted}
+use Rattle.s38_rules.specs.state.State.{State}
+use Rattle.s38_rules.specs.families.Units.{all_decommitted}
 use Rattle.s38_units.proofs.UnitLaws.{taken_first}
 use Rattle.s38_units.proofs.ends.take_all_back.Goals as goal
 

@@ -1,6 +1,6 @@
 use Rattle.std.proofs.Common.{◌≡◌, ◌-◌, ◌^◌}
 use Rattle.s38_commits.specs.Units.{above}
-use Rattle.s38_rules.specs.Units.{all_decommitted}
+use Rattle.s38_rules.specs.families.Units.{all_decommitted}
 use Rattle.s38_units.proofs.ends.take_all_back.Given as goal
 
 abbrev pub invariant-loop-next : goal.invariant-loop-next

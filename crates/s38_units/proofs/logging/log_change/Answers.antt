@@ -2,7 +2,7 @@ use Rattle.std.proofs.Common.{◌≡◌, sym, ap, ◌∙◌}
 use Rattle.std.specs.Prelude.{Option, Some}
 use Rattle.std.specs.Option.{option_map}
 use Rattle.s38_base.specs.declared.id.ObjNum.{ObjNum}
-use Rattle.s38_rules.specs.Journaling.{journal_for}
+use Rattle.s38_rules.specs.state.Journaling.{journal_for}
 use Rattle.s38_units.specs.Logging.{journal_logged}
 use Rattle.s38_units.proofs.KeptLaws.{journal_left}
 use Rattle.s38_units.proofs.UnitLaws.{logged_ok}

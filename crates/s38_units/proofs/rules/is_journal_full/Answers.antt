@@ -2,7 +2,7 @@ use Rattle.std.proofs.Common.{◌≡◌, ℕ, ◌+◌, length, false, ap, sym, �
 use Rattle.std.specs.Prelude.{Option, is_some}
 use Rattle.std.specs.Option.{unwrap_or}
 use Rattle.s38_journals.specs.Journals.{JournalList, room_refusal}
-use Rattle.s38_rules.specs.Parts.{journal_at, no_journal}
+use Rattle.s38_rules.specs.state.PartsAt.{journal_at, no_journal}
 use Rattle.s38_units.proofs.OpenLaws.{room_for_all}
 use Rattle.s38_units.proofs.rules.is_journal_full.Goals as goal
 

@@ -2,9 +2,9 @@ use Rattle.std.proofs.Common.{subst, sym}
 use Rattle.std.specs.Option.{option_map}
 use Rattle.s38_base.specs.declared.id.ObjNum.{ObjNum}
 use Rattle.s38_journals.specs.declared.entry.EntryKind.TheVariants.{Decommit}
-use Rattle.s38_rules.specs.Held.{Held}
-use Rattle.s38_rules.specs.Kept.{Mirrors}
-use Rattle.s38_rules.specs.Units.{all_undone, end_entry}
+use Rattle.s38_rules.specs.state.Held.{Held}
+use Rattle.s38_rules.specs.state.Kept.{Mirrors}
+use Rattle.s38_rules.specs.families.Units.{all_undone, end_entry}
 use Rattle.s38_units.proofs.KeptLaws.{end_kept, undone_kept}
 use Rattle.s38_units.proofs.units.decommit.Goals as goal
 

@@ -1,7 +1,7 @@
 use Rattle.std.proofs.Common.{◌≡◌, ℕ, ◌+◌, ◌-◌, ◌<◌, suc, length, take, ap, ◌∙◌, arith}
 use Rattle.std.proofs.lemmas.Bool.Decides.{nat_tests}
-use Rattle.s38_rules.specs.Held.{Held}
-use Rattle.s38_rules.specs.Units.{all_undone}
+use Rattle.s38_rules.specs.state.Held.{Held}
+use Rattle.s38_rules.specs.families.Units.{all_undone}
 use Rattle.s38_units.proofs.UnitLaws.{undone_newest}
 use Rattle.s38_units.proofs.units.undo_all.Goals as goal
 

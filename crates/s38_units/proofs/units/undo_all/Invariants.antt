@@ -1,5 +1,5 @@
 use Rattle.std.proofs.Common.{◌≡◌, ◌-◌, length, take}
-use Rattle.s38_rules.specs.Units.{all_undone}
+use Rattle.s38_rules.specs.families.Units.{all_undone}
 use Rattle.s38_units.proofs.units.undo_all.Given as goal
 
 abbrev pub invariant-loop-taken : goal.invariant-loop-taken

@@ -1,5 +1,5 @@
 use Rattle.std.proofs.Common.{◌≡◌, ◌+◌, drop}
-use Rattle.s38_rules.specs.Verdict.{by_operand}
+use Rattle.s38_rules.specs.ask.AddressRules.{by_operand}
 use Rattle.s38_verdicts.specs.Resolved.{needs_of}
 use Rattle.s38_verdicts.proofs.by_operand.by_operand.Given as goal
 

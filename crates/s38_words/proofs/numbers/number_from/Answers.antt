@@ -9,12 +9,12 @@ use Rattle.s38_words.proofs.numbers.number_from.Goals as goal
 
 pub signed-requires : goal.signed-requires
 signed-requires c =
-    (number-lt c.args.front.now c.args.back.now c.value_behind.result c.value_behind-units.result c.value_behind.ensures c.value_behind-units.ensures
+    (number-lt c.args.front.now c.args.back.now c.value_after.result c.value_after-units.result c.value_after.ensures c.value_after-units.ensures
     c.requires.front c.requires.back c.requires.few).1
 
 pub returns : goal.returns
 returns c =
-    let same = (number-lt c.args.front.now c.args.back.now c.value_behind.result c.value_behind-units.result c.value_behind.ensures c.value_behind-units.ensures
+    let same = (number-lt c.args.front.now c.args.back.now c.value_after.result c.value_after-units.result c.value_after.ensures c.value_after-units.ensures
     c.requires.front c.requires.back c.requires.few).0 in
     let numeral : ℤ → Numeral = λ units. record { units = units; digits = length c.args.front.now + length c.args.back.now; fraction = length c.args.back.now } in
     let held : SFits w128 c.signed.result = search rules in

@@ -2,7 +2,7 @@ use denote.Param.Send.{sendable}
 use Rattle.std.proofs.Common.{ap}
 use Rattle.std.specs.Prelude.{None}
 use Rattle.s38_machine.proofs.SentLaws.{machine_send}
-use Rattle.s38_rules.specs.Opening.{state_of}
+use Rattle.s38_rules.specs.state.Opening.{state_of}
 use Rattle.s38_run.proofs.JobLaws.{is_begun, process_begun}
 use Rattle.s38_run.proofs.StillLaws.{still_begun}
 use Rattle.s38_workers.proofs.machine.run_machine.Goals as goal

@@ -1,7 +1,7 @@
 use Rattle.std.proofs.Common.{arith, ◌≡◌, ◌+◌, ◌-◌, ◌<◌, length, slice_index_or, true, sym, subst}
 use Rattle.s38_turn.specs.Lists.{has}
 use Rattle.s38_workers.specs.Asking.{WasStopped}
-use Rattle.s38_workers.specs.Going.{Stands}
+use Rattle.s38_workers.specs.Going.{IsByProgramSoFar}
 use Rattle.s38_workers.proofs.GatherLaws.{head_of, named}
 use Rattle.s38_workers.proofs.seats.closed.Goals as goal
 
@@ -21,7 +21,7 @@ returns-clause-stands g c k d job one lt job_at one_at =
     let made = c.gather_all.ensures in
     let none = made.1 in
     let run = made.2.each k d (omega (arith, none)) lt in
-    subst (λ items. Stands (WasStopped S.is_sound S.origin S.steps c.args.turn.machine) one job.budget items (slice_index_or c.args.runners.items k d).progress) (sym (c.close.ensures.lists (k + 1))) (run.stands job one job_at one_at)
+    subst (λ items. IsByProgramSoFar (WasStopped S.is_sound S.origin S.steps c.args.turn.machine) one job.budget items (slice_index_or c.args.runners.items k d).progress) (sym (c.close.ensures.lists (k + 1))) (run.stands job one job_at one_at)
 
 pub returns-clause-named : goal.returns-clause-named
 returns-clause-named g c =

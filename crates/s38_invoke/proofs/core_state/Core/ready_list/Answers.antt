@@ -1,5 +1,5 @@
 use Rattle.std.proofs.Common.{◌+◌, ◌++◌, ◌∷◌, [], cond, refl, sym, ◌∙◌, ap}
-use Rattle.s38_rules.specs.State.{ready}
+use Rattle.s38_rules.specs.state.State.{ready}
 use Rattle.s38_invoke.proofs.StageLaws.{filter_range}
 use Rattle.s38_invoke.proofs.core_state.Core.ready_list.Goals as goal
 

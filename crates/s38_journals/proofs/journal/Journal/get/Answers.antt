@@ -1,6 +1,6 @@
 use Rattle.std.proofs.Common.{◌∙◌, ap, sym}
 use Rattle.std.specs.Prelude.{Some}
-use Rattle.s38_journals.specs.Entries.{Entry}
+use Rattle.s38_journals.specs.Entries.{JournalRecord}
 use Rattle.s38_journals.proofs.JournalLaws.{found_entry}
 use Rattle.s38_journals.proofs.journal.Journal.get.Goals as goal
 
@@ -14,5 +14,5 @@ entry_of-requires-clause-before c =
 
 pub returns-in-Some : goal.returns-in-Some
 returns-in-Some c =
-    ap (λ (e : Entry). Some e) c.entry_of.ensures
+    ap (λ (e : JournalRecord). Some e) c.entry_of.ensures
     ∙ sym (found_entry c.args.self.now.entries c.args.seq c.in-Some.bytes.now c.in-Some.ensures.stand c.in-Some.ensures.bytes).says

@@ -1,5 +1,5 @@
 use Rattle.std.proofs.Common.{arith, subst, sym}
-use Rattle.s38_rules.specs.Legal.{IsSound, Run}
+use Rattle.s38_rules.specs.step.Legal.{IsSound, Run}
 use Rattle.s38_rules.proofs.Laws.{sound_after}
 use Rattle.s38_machine.proofs.machine.Machine.ask.Goals as goal
 

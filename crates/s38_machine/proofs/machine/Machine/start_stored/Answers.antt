@@ -1,6 +1,6 @@
 use Rattle.std.proofs.Common.{ap, ◌∙◌}
 use Rattle.s38_machine.proofs.BegunLaws.{nobody_in}
-use Rattle.s38_rules.specs.State.{State}
+use Rattle.s38_rules.specs.state.State.{State}
 use Rattle.s38_machine.proofs.machine.Machine.start_stored.Goals as goal
 
 pub begin-requires-clause-nobody : goal.begin-requires-clause-nobody

@@ -7,8 +7,8 @@ use Rattle.s38_code.specs.declared.reply.Reply.{Reply}
 use Rattle.s38_code.specs.declared.step.StepFault.{StepFault}
 use Rattle.s38_code.specs.Asking.{answer_by, reply_by}
 use Rattle.s38_code.specs.History.{IsAnswered}
-use Rattle.s38_rules.specs.Step.{step}
-use Rattle.s38_rules.specs.Legal.{Run, after}
+use Rattle.s38_rules.specs.step.Step.{step}
+use Rattle.s38_rules.specs.step.Legal.{Run, after}
 use Rattle.s38_rules.proofs.Laws.{answered_after, origin_after}
 use Rattle.s38_machine.specs.Still.{IsStillStep}
 use Rattle.s38_machine.proofs.AskingLaws.{same_moment}

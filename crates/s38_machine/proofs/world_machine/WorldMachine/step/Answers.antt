@@ -2,8 +2,8 @@ use Rattle.std.proofs.Common.{◌≡◌, ap, sym, ◌∙◌}
 use Rattle.s38_code.specs.declared.event.Event.{Event}
 use Rattle.s38_machine.proofs.AnsweredLaws.{IsJudged, answered_reply, answered_run, answered_world, checked_run, handed_on, judged_anew, judged_last, judged_verdict, waits_reply, waits_run}
 use Rattle.s38_machine.specs.Answered.{WorldRun, entered, run_of}
-use Rattle.s38_machine.specs.Stored.{anew_by}
-use Rattle.s38_rules.specs.Step.{awake_verdict, by_verdict}
+use Rattle.s38_machine.specs.Stored.{must_persist_by}
+use Rattle.s38_rules.specs.step.Step.{awake_verdict, by_verdict}
 use Rattle.s38_machine.proofs.world_machine.WorldMachine.step.Goals as goal
 
 pub returns-then-waits-clause-ok : goal.returns-then-waits-clause-ok
@@ -32,7 +32,7 @@ pub answer_copied-requires-clause-anew : goal.answer_copied-requires-clause-anew
 answer_copied-requires-clause-anew c =
     judged_anew c.args.self.now c.judge-judged.new.self c.args.process c.args.event.now c.judge-judged.result.verdict c.judge-judged.result.anew
     (record { checked = c.judge-judged.ensures.checked; same = c.judge-judged.ensures.same; verdict = c.judge-judged.ensures.verdict }) c.judge-judged.ensures.anew
-    ∙ ap (λ (e : Event). anew_by c.judge-judged.new.self.world.state c.args.process e c.judge-judged.result.verdict) (sym c.in_ok-own.ensures)
+    ∙ ap (λ (e : Event). must_persist_by c.judge-judged.new.self.world.state c.args.process e c.judge-judged.result.verdict) (sym c.in_ok-own.ensures)
 
 pub returns-in-Ok-clause-ok : goal.returns-in-Ok-clause-ok
 returns-in-Ok-clause-ok c =

@@ -1,7 +1,7 @@
 use Rattle.std.proofs.Common.{◌≡◌, ◌≤◌, ◌+◌, List, true, sym, ap, subst}
 use Rattle.std.specs.Prelude.{None}
 use Rattle.s38_rules.specs.declared.object.Object.{Object}
-use Rattle.s38_rules.specs.Held.{Held, found}
+use Rattle.s38_rules.specs.state.Held.{Held, found}
 use Rattle.s38_objects.specs.Lawful.{is_place_of}
 use Rattle.s38_objects.proofs.IndexLaws.{fresh, indexed_added, indexed_refused, near, values_added}
 use Rattle.s38_objects.proofs.ObjectLaws.{from_ok}

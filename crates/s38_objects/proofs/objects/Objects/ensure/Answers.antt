@@ -1,6 +1,6 @@
 use Rattle.std.proofs.Common.{ap, List, refl}
 use Rattle.s38_rules.specs.declared.object.Object.{Object}
-use Rattle.s38_rules.specs.Held.{Held, kept_on_disk}
+use Rattle.s38_rules.specs.state.Held.{Held, kept_on_disk}
 use Rattle.s38_objects.proofs.IndexLaws.{indexed_changed, values_changed_to}
 use Rattle.s38_objects.proofs.objects.Objects.ensure.Goals as goal
 

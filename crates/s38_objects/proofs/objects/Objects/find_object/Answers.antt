@@ -1,6 +1,6 @@
 use Rattle.std.proofs.Common.{◌∙◌, ◌≡◌, sym, subst}
 use Rattle.std.specs.Prelude.{Some}
-use Rattle.s38_rules.specs.Held.{Held, number_found}
+use Rattle.s38_rules.specs.state.Held.{Held, number_found}
 use Rattle.s38_objects.proofs.IndexLaws.{found_object}
 use Rattle.s38_objects.proofs.objects.Objects.find_object.Goals as goal
 

@@ -4,8 +4,8 @@ use Rattle.std.specs.Option.{ghost_name_of}
 use Rattle.std.specs.BTreeMap.{BTreeMap, values}
 use Rattle.std.specs.Map.{values_of}
 use Rattle.s38_rules.specs.declared.object.Object.{Object}
-use Rattle.s38_rules.specs.Held.{Held, change_in}
-use Rattle.s38_rules.specs.Parts.{over_body, over_object, part_in}
+use Rattle.s38_rules.specs.state.Held.{Held, change_in}
+use Rattle.s38_rules.specs.state.Parts.{over_body, over_object, part_in}
 use Rattle.s38_objects.specs.Changes.{KeepsName, with_body}
 use Rattle.s38_objects.proofs.NumberLaws.{lookup_object, object_unchanged, object_written}
 use Rattle.s38_objects.proofs.IndexLaws.{indexed_changed, indexed_same, values_changed_to}

@@ -1,8 +1,8 @@
 use Rattle.std.proofs.Common.{◌≡◌, ◌∙◌, ◌<◌, List, false, ap, sym, subst}
 use Rattle.std.specs.BTreeMap.{values}
 use Rattle.s38_rules.specs.declared.object.Object.{Object}
-use Rattle.s38_rules.specs.Creation.{is_taken_beside}
-use Rattle.s38_rules.specs.Held.{Held, change}
+use Rattle.s38_rules.specs.families.Creation.{is_taken_beside}
+use Rattle.s38_rules.specs.state.Held.{Held, change}
 use Rattle.s38_objects.specs.Changes.{placed}
 use Rattle.s38_objects.proofs.IndexLaws.{values_changed_to}
 use Rattle.s38_objects.proofs.NumberLaws.{lookup_object}

@@ -1,5 +1,5 @@
 use Rattle.std.proofs.Common.{◌≤◌, sym, subst}
-use Rattle.s38_rules.specs.Held.{Held}
+use Rattle.s38_rules.specs.state.Held.{Held}
 use Rattle.s38_objects.proofs.IndexLaws.{indexed_raised}
 use Rattle.s38_objects.proofs.objects.Objects.raise.Goals as goal
 

@@ -1,7 +1,7 @@
 use Rattle.std.proofs.Common.{◌∙◌, ℕ, List, sym, ap}
 use Rattle.std.specs.Map.{values_of}
 use Rattle.s38_rules.specs.declared.object.Object.{Object}
-use Rattle.s38_rules.specs.Held.{Held}
+use Rattle.s38_rules.specs.state.Held.{Held}
 use Rattle.s38_objects.proofs.NumberLaws.{lookup_object, values_without}
 use Rattle.s38_objects.proofs.IndexLaws.{indexed_removed}
 use Rattle.s38_objects.proofs.objects.Objects.remove.Goals as goal

@@ -3,8 +3,8 @@ use Rattle.std.specs.Prelude.{Option, Some}
 use Rattle.std.specs.BTreeMap.{values}
 use Rattle.std.proofs.lemmas.Result.{on_ok_weaker}
 use Rattle.s38_rules.specs.declared.object.Object.{Object}
-use Rattle.s38_rules.specs.Creation.{is_taken_beside}
-use Rattle.s38_rules.specs.Held.{Held, change, context_in, object, renamed}
+use Rattle.s38_rules.specs.families.Creation.{is_taken_beside}
+use Rattle.s38_rules.specs.state.Held.{Held, change, context_in, object, renamed}
 use Rattle.s38_objects.specs.Changes.{placed}
 use Rattle.s38_objects.proofs.NumberLaws.{lookup_object}
 use Rattle.s38_objects.proofs.ObjectLaws.{change_absent, change_alike, context_given}

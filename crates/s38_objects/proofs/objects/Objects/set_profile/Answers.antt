@@ -1,7 +1,7 @@
 use Rattle.std.proofs.Common.{ap, List, refl}
 use Rattle.s38_rules.specs.declared.object.Object.{Object}
-use Rattle.s38_rules.specs.Held.{Held}
-use Rattle.s38_rules.specs.Parts.{over_object, profile_part}
+use Rattle.s38_rules.specs.state.Held.{Held}
+use Rattle.s38_rules.specs.state.Parts.{over_object, profile_part}
 use Rattle.s38_objects.proofs.IndexLaws.{indexed_changed, values_changed_to}
 use Rattle.s38_objects.proofs.objects.Objects.set_profile.Goals as goal
 

@@ -1,5 +1,5 @@
 use Rattle.std.proofs.Common.{subst, sym, true}
-use Rattle.s38_blocks.specs.declared.layout.Layout.{Layout}
+use Rattle.s38_redo_log.specs.declared.layout.Layout.{Layout}
 use Rattle.s38_pages.specs.Vaults.{HoldsNow, PageStore, page_holds}
 use Rattle.s38_pages.proofs.page_vault.PageVault.mount.Goals as goal
 

@@ -2,13 +2,13 @@ use Rattle.std.proofs.Common.{◌≡◌, ◌+◌, ◌/◌, ◌*◌, ◌≤◌, �
 use Rattle.std.specs.FinMap.{get}
 use Rattle.s38_disk.specs.Costs.{Costs}
 use Rattle.s38_disk.specs.Disk.{DiskView}
-use Rattle.s38_disk.specs.Moves.{Ends, Moves}
+use Rattle.s38_disk.specs.Moves.{Moves, MovesBy}
 use Rattle.s38_disk.proofs.CostLaws.{costs_within}
 use Rattle.s38_vault.specs.Content.{changed}
-use Rattle.s38_blocks.specs.declared.layout.Layout.{Layout}
-use Rattle.s38_blocks.specs.declared.layout.Slot.{Slot}
-use Rattle.s38_blocks.specs.Phases.{IsAllOrNone, IsPut}
-use Rattle.s38_pages.specs.Index.{AreApart, Planned, marked}
+use Rattle.s38_redo_log.specs.declared.layout.Layout.{Layout}
+use Rattle.s38_redo_log.specs.declared.layout.Slot.{Slot}
+use Rattle.s38_redo_log.specs.Phases.{IsAllOrNone, IsPut}
+use Rattle.s38_pages.specs.Index.{HaveOwnHomes, Planned, marked}
 use Rattle.s38_pages.specs.Vaults.{IsOneOf, IsVault, PageStore, page_holds}
 use Rattle.s38_pages.proofs.Blaming.{of_put}
 use Rattle.s38_pages.proofs.Giving.{Given, homes_apart}
@@ -18,8 +18,8 @@ use Rattle.s38_pages.proofs.page_vault.PageVault.put_all.Goals as goal
 along : {v w : DiskView} (lay : Layout) (xs ys : List Slot) → xs ≡ ys → Moves v w (2 * length xs + length xs / 132 + 7) (IsAllOrNone lay xs) → Moves v w (2 * length ys + length ys / 132 + 7) (IsAllOrNone lay ys)
 along {v} {w} lay xs ys e m = subst (λ zs. Moves v w (2 * length zs + length zs / 132 + 7) (IsAllOrNone lay zs)) e m
 
-ends : (v w : DiskView) (lay : Layout) (xs ys : List Slot) → xs ≡ ys → Ends v w (IsPut lay xs) → Ends v w (IsPut lay ys)
-ends v w lay xs ys e f = subst (λ zs. Ends v w (IsPut lay zs)) e f
+ends : (v w : DiskView) (lay : Layout) (xs ys : List Slot) → xs ≡ ys → MovesBy v w (IsPut lay xs) → MovesBy v w (IsPut lay ys)
+ends v w lay xs ys e f = subst (λ zs. MovesBy v w (IsPut lay zs)) e f
 
 costs : {v w : DiskView} (xs ys : List Slot) (most : ℕ) → xs ≡ ys → length ys ≤ most → Costs v w (2 * length xs + length xs / 132 + 3) 4 → Costs v w (2 * most + most / 132 + 3) 4
 costs xs ys most e few x = let same = ap length e in costs_within (2 * most + most / 132 + 3) 4 x (omega (arith, same, few)) (omega arith)
@@ -28,7 +28,7 @@ pub give_back-requires-clause-apart : goal.give_back-requires-clause-apart
 give_back-requires-clause-apart g c =
     let lay = c.self.inside.layout in
     let p = c.plan.ensures.planned lay c.self.invariant.vault.free c.self.invariant.vault.index in
-    subst AreApart (sym c.deref-2.ensures.value) (homes_apart lay c.plan.new.slots.items p.homes)
+    subst HaveOwnHomes (sym c.deref-2.ensures.value) (homes_apart lay c.plan.new.slots.items p.homes)
 
 pub invariant_of-self : goal.invariant_of-self
 invariant_of-self g c =

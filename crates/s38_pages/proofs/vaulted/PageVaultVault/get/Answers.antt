@@ -2,7 +2,7 @@ use Rattle.std.proofs.Common.{◌≡◌, true, false, None, Some, is_some, ap, r
 use Rattle.std.specs.FinMap.{contains_key}
 use Rattle.s38_vault.specs.Directory.{keys_of}
 use Rattle.s38_vault.proofs.DirectoryLaws.{contains-keys_of}
-use Rattle.s38_blocks.proofs.CommitLemmas.{home_below}
+use Rattle.s38_redo_log.proofs.CommitLemmas.{home_below}
 use Rattle.s38_pages.specs.Vaults.{PageStore, page_holds}
 use Rattle.s38_pages.proofs.Blaming.{of_read}
 use Rattle.s38_pages.proofs.VaultLemmas.{keeps_vault, page_here, placed_still}

@@ -2,9 +2,9 @@ use Rattle.std.proofs.Common.{◌≡◌, ◌≤◌, ◌-◌, ap, refl, rules, su
 use Rattle.std.specs.FinMap.{len}
 use Rattle.std.specs.Vec.{vec_capacity}
 use Rattle.s38_vault.specs.Directory.{keys_of, new_keys}
-use Rattle.s38_blocks.specs.declared.layout.Layout.{Layout}
+use Rattle.s38_redo_log.specs.declared.layout.Layout.{Layout}
 use Rattle.s38_disk.proofs.CostLaws.{costs_nothing}
-use Rattle.s38_pages.specs.Index.{parts_of}
+use Rattle.s38_pages.specs.Index.{home_count}
 use Rattle.s38_pages.specs.Vaults.{IsVault, LeavesAt, PageStore}
 use Rattle.s38_pages.proofs.Finishing.{only_read}
 use Rattle.s38_pages.proofs.VaultLemmas.{free_after, put_whole, told_moments}
@@ -13,11 +13,11 @@ use Rattle.s38_pages.proofs.vaulted.PageVaultVault.put.Goals as goal
 pub returns-in-Ok-clause-free : goal.returns-in-Ok-clause-free
 returns-in-Ok-clause-free g c =
     let old = c.args.self.now in
-    let fits = subst (λ (v : PageStore). len v.homes ≤ parts_of v.layout) c.self.view_is (omega (arith, c.self.invariant.vault.parts)) in
+    let fits = subst (λ (v : PageStore). len v.homes ≤ home_count v.layout) c.self.view_is (omega (arith, c.self.invariant.vault.parts)) in
     let moved = ap (λ (v : PageStore). new_keys (keys_of v.homes) c.args.changes.now) c.self.view_is in
-    let is : c.free-free.result ≡ parts_of old.layout - len old.homes = c.free-free.ensures.free in
-    let room : new_keys (keys_of old.homes) c.args.changes.now ≤ parts_of old.layout - len old.homes = omega (arith, c.count_new-needed.ensures, moved, is, c.if-needed-free.false) in
-    free_after old.homes c.put_all.new.self.homes c.args.changes.now (parts_of old.layout) (parts_of c.put_all.new.self.layout) c.requires.rising fits (ap parts_of c.put_all.ensures.layout) room c.put_all.ensures.keys
+    let is : c.free-free.result ≡ home_count old.layout - len old.homes = c.free-free.ensures.free in
+    let room : new_keys (keys_of old.homes) c.args.changes.now ≤ home_count old.layout - len old.homes = omega (arith, c.count_new-needed.ensures, moved, is, c.if-needed-free.false) in
+    free_after old.homes c.put_all.new.self.homes c.args.changes.now (home_count old.layout) (home_count c.put_all.new.self.layout) c.requires.rising fits (ap home_count c.put_all.ensures.layout) room c.put_all.ensures.keys
 
 pub returns-in-Ok-clause-during : goal.returns-in-Ok-clause-during
 returns-in-Ok-clause-during g c m holds t n low high left =

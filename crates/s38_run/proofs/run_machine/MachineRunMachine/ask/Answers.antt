@@ -1,4 +1,4 @@
-use Rattle.s38_rules.specs.Legal.{Run}
+use Rattle.s38_rules.specs.step.Legal.{Run}
 use Rattle.s38_run.proofs.StillLaws.{kept_still, later_still, moved_still, same_beginning, step_or_none, still_yet}
 use Rattle.s38_run.proofs.run_machine.MachineRunMachine.ask.Goals as goal
 

@@ -1,0 +1,10 @@
+pub mod PartLaws
+pub mod PassLaws
+pub mod CloseLaws
+pub mod FoundLaws
+pub mod NextLaws
+pub mod FitLaws
+pub mod WaitLaws
+pub mod CallLaws
+pub mod KeepLaws
+pub mod RestLaws

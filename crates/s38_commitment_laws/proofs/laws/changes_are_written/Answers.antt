@@ -1,5 +1,0 @@
-use Rattle.s38_commitment_laws.proofs.StepLaws.{change_here}
-use Rattle.s38_commitment_laws.proofs.laws.changes_are_written.Goals as goal
-
-pub returns : goal.returns
-returns c = record { written = change_here }

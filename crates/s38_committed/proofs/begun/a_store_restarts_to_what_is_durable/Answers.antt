@@ -1,5 +1,0 @@
-use Rattle.s38_committed.proofs.BeginLaws.{restarts_to}
-use Rattle.s38_committed.proofs.begun.a_store_restarts_to_what_is_durable.Goals as goal
-
-pub returns : goal.returns
-returns c = restarts_to

@@ -1,5 +1,0 @@
-use Rattle.s38_committed.proofs.FoundLaws.{uncommitted_found}
-use Rattle.s38_committed.proofs.uncommitted.what_is_not_committed_is_found_as_it_was.Goals as goal
-
-pub returns : goal.returns
-returns c = uncommitted_found

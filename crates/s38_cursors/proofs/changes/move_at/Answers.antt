@@ -1,0 +1,13 @@
+use Rattle.std.proofs.Common.{subst, sym}
+use Rattle.s38_rules.specs.families.CursorSeeks.{moved_to}
+use Rattle.s38_rules.specs.state.Held.{Held}
+use Rattle.s38_rules.specs.state.Kept.{Mirrors}
+use Rattle.s38_cursors.proofs.CursorLaws.{cursor_kept}
+use Rattle.s38_cursors.proofs.changes.move_at.Goals as goal
+
+pub invariant_of-world : goal.invariant_of-world
+invariant_of-world c = (
+  c.world.invariant.0,
+  subst (λ (h : Held). Mirrors c.world.inside.profiles h) (sym c.move_in.ensures)
+      (cursor_kept c.world.inside.profiles c.world.inside.objects c.args.number.0 (moved_to c.args.to) c.world.invariant.1),
+)

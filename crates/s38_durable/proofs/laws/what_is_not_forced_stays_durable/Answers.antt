@@ -1,5 +1,0 @@
-use Rattle.s38_durable.proofs.KeptLaws.{unforced_stays}
-use Rattle.s38_durable.proofs.laws.what_is_not_forced_stays_durable.Goals as goal
-
-pub returns : goal.returns
-returns c = unforced_stays

@@ -1,5 +1,0 @@
-pub mod WalkLaws
-pub mod DifferenceLaws
-pub mod WantedLaws
-pub mod PutLaws
-pub mod LookLaws

@@ -1,5 +1,0 @@
-use Rattle.s38_forcing.proofs.LookLaws.{differences_few}
-use Rattle.s38_forcing.proofs.laws.differences_are_no_more_than_parts.Goals as goal
-
-pub returns : goal.returns
-returns c = λ pages range wanted. differences_few pages range wanted

@@ -1,5 +1,0 @@
-use Rattle.s38_forcing.proofs.LookLaws.{differences_made}
-use Rattle.s38_forcing.proofs.laws.differences_make_what_is_wanted.Goals as goal
-
-pub returns : goal.returns
-returns c = λ m range wanted key. differences_made m range wanted key

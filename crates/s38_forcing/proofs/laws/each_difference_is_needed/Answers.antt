@@ -1,5 +1,0 @@
-use Rattle.s38_forcing.proofs.LookLaws.{each_difference}
-use Rattle.s38_forcing.proofs.laws.each_difference_is_needed.Goals as goal
-
-pub returns : goal.returns
-returns c = λ pages range wanted. each_difference pages range wanted

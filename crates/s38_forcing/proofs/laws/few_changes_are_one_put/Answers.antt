@@ -1,5 +1,0 @@
-use Rattle.s38_forcing.proofs.LookLaws.{one_put}
-use Rattle.s38_forcing.proofs.laws.few_changes_are_one_put.Goals as goal
-
-pub returns : goal.returns
-returns c = λ most m changes n few after. one_put most m changes n few after

@@ -1,5 +1,0 @@
-use Rattle.s38_forcing.proofs.LookLaws.{aims_made}
-use Rattle.s38_forcing.proofs.laws.several_aims_are_met.Goals as goal
-
-pub returns : goal.returns
-returns c = λ m aims key order. aims_made m aims key order

@@ -1,5 +1,0 @@
-use Rattle.s38_forcing.proofs.LookLaws.{aims_new}
-use Rattle.s38_forcing.proofs.laws.several_aims_bring_the_wanted_keys.Goals as goal
-
-pub returns : goal.returns
-returns c = λ keys pages aims have are. aims_new keys pages aims have are

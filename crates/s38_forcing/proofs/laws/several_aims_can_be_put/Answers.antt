@@ -1,8 +1,0 @@
-use Rattle.s38_forcing.proofs.LookLaws.{aims_rising, aims_objects}
-use Rattle.s38_forcing.proofs.laws.several_aims_can_be_put.Goals as goal
-
-pub returns : goal.returns
-returns c = record {
-  rising = λ pages aims order. aims_rising pages aims order;
-  objects = λ pages aims named. aims_objects pages aims named;
-}

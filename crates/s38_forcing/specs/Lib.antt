@@ -1,3 +1,0 @@
-pub mod Aims
-pub mod Differences
-pub mod Puts

@@ -1,5 +1,0 @@
-use Rattle.s38_image_printing.proofs.DataLaws.{front_zeros}
-use Rattle.s38_image_printing.proofs.data_spaces.zeros.Goals as goal
-
-pub returns : goal.returns
-returns c = front_zeros c.args.len 4096 c.requires

@@ -1,5 +1,0 @@
-use Rattle.s38_image_printing.proofs.KindLaws.{read_printable}
-use Rattle.s38_image_printing.proofs.laws.what_is_read_can_be_printed.Goals as goal
-
-pub returns : goal.returns
-returns c = read_printable

@@ -1,8 +1,0 @@
-use Rattle.std.proofs.Common.{◌*◌, take}
-use Rattle.std.specs.List.{flat_map}
-use Rattle.s38_image.specs.Headers.{row}
-use Rattle.s38_image_printing.specs.Writing.{Adds}
-use Rattle.s38_image_printing.proofs.printing.put_rows.Given as goal
-
-abbrev pub invariant-loop-held_row : goal.invariant-loop-held_row
-invariant-loop-held_row l = Adds l.initial.into l.into (9 * l.held_row-index) (flat_map row.print (take l.held_row-index l.held))

@@ -1,4 +1,0 @@
-pub mod Replacing
-pub mod Outcomes
-pub mod Walking
-pub mod Placing

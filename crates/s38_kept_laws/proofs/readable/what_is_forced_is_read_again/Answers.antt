@@ -1,5 +1,0 @@
-use Rattle.s38_kept_laws.proofs.ReadableLaws.{forced_readable}
-use Rattle.s38_kept_laws.proofs.readable.what_is_forced_is_read_again.Goals as goal
-
-pub returns : goal.returns
-returns c = λ all s bodies settles again. forced_readable all s bodies settles again

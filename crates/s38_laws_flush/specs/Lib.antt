@@ -1,0 +1,2 @@
+pub mod durable
+pub mod puts

@@ -1,0 +1,7 @@
+use Rattle.std.proofs.Common.{arith}
+use Rattle.s38_base.specs.Limits.{body_limit}
+use Rattle.s38_laws_images.proofs.readable.IndexLaws.{index_fits}
+use Rattle.s38_laws_images.proofs.readable.bodies.index_is_readable.Goals as goal
+
+pub returns : goal.returns
+returns c = index_fits body_limit c.args.held.now (omega arith) c.requires

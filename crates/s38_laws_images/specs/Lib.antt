@@ -1,0 +1,3 @@
+pub mod openings
+pub mod readable
+pub mod form

@@ -1,0 +1,9 @@
+pub mod CallSuits
+pub mod GiveLaws
+pub mod ComputedLaws
+pub mod FillLaws
+pub mod HistoryLaws
+pub mod ValueLaws
+pub mod ReceiverLaws
+pub mod ShapeLaws
+pub mod NoValueLaws

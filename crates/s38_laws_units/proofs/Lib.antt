@@ -1,0 +1,12 @@
+pub mod ChangeLaws
+pub mod LoggingLaws
+pub mod ChangeRuleLaws
+pub mod DestroyLaws
+pub mod EndLaws
+pub mod EntryLaws
+pub mod HeldLaws
+pub mod JoinLaws
+pub mod KeptLaws
+pub mod RowLaws
+pub mod StepLaws
+pub mod UnitLaws

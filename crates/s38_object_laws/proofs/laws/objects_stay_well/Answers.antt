@@ -1,8 +1,0 @@
-use Rattle.s38_object_laws.proofs.EventLaws.{history_well, step_well}
-use Rattle.s38_object_laws.proofs.laws.objects_stay_well.Goals as goal
-
-pub returns-clause-steps : goal.returns-clause-steps
-returns-clause-steps c = step_well
-
-pub returns-clause-histories : goal.returns-clause-histories
-returns-clause-histories c = history_well

@@ -1,5 +1,0 @@
-use Rattle.s38_object_laws.proofs.EventLaws.{step_outline}
-use Rattle.s38_object_laws.proofs.laws.what_is_not_forced_stays.Goals as goal
-
-pub returns : goal.returns
-returns c = step_outline

@@ -1,8 +1,0 @@
-use Rattle.s38_openings.proofs.BeginLaws.{opening_well, run_well}
-use Rattle.s38_openings.proofs.laws.an_opening_is_well.Goals as goal
-
-pub returns-clause-begins : goal.returns-clause-begins
-returns-clause-begins c = opening_well
-
-pub returns-clause-histories : goal.returns-clause-histories
-returns-clause-histories c = run_well

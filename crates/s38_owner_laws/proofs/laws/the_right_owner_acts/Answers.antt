@@ -1,6 +1,0 @@
-use Rattle.s38_owner_laws.proofs.HistoryLaws.{history_agrees, opening_begins}
-use Rattle.s38_owner_laws.proofs.laws.the_right_owner_acts.Goals as goal
-
--- src/laws.rt:1:1
-pub returns : goal.returns
-returns c = record { begins = opening_begins; histories = history_agrees }

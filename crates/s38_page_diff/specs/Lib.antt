@@ -1,0 +1,5 @@
+pub mod Aims
+pub mod Differences
+pub mod FlushFaults
+pub mod Puts
+pub mod reconcile

@@ -1,4 +1,0 @@
-pub mod CallSuits
-pub mod GiveLaws
-pub mod HistoryLaws
-pub mod ValueLaws

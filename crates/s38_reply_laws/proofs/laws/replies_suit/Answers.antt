@@ -1,6 +1,0 @@
-use Rattle.s38_reply_laws.proofs.HistoryLaws.{history_suits}
-use Rattle.s38_reply_laws.proofs.laws.replies_suit.Goals as goal
-
--- src/laws.rt:1:1
-pub returns : goal.returns
-returns c = record { histories = history_suits }

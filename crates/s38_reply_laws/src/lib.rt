@@ -1,7 +1,0 @@
-//! Replies suit what was asked: so each process is lawful at each moment of a history, and no run meets a default of the
-//! definitions.
-#![tactic(auto)]
-
-mod laws;
-
-pub use laws::replies_suit;

@@ -1,0 +1,14 @@
+pub mod AskLaws
+pub mod BearLaws
+pub mod ChangeLaws
+pub mod EventLaws
+pub mod StartLaws
+pub mod FitLaws
+pub mod FrameLaws
+pub mod KeepLaws
+pub mod ListLaws
+pub mod PlaceLaws
+pub mod RowLaws
+pub mod SameLaws
+pub mod VisitLaws
+pub mod WordLaws

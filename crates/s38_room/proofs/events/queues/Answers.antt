@@ -1,7 +1,0 @@
-use Rattle.std.proofs.Common.{refl}
-use Rattle.s38_rules.specs.Queues.{queues_row}
-use Rattle.s38_room.proofs.events.queues.Goals as goal
-
-pub returns-in-Crtq : goal.returns-in-Crtq
-unfolding queues_row
-returns-in-Crtq c = rw c.in-Crtq.is (c.made.ensures _ _ _ _ refl refl)

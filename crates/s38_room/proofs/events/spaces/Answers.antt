@@ -1,7 +1,0 @@
-use Rattle.std.proofs.Common.{refl}
-use Rattle.s38_rules.specs.Spaces.{spaces_row}
-use Rattle.s38_room.proofs.events.spaces.Goals as goal
-
-pub returns-in-Crts : goal.returns-in-Crts
-unfolding spaces_row
-returns-in-Crts c = rw c.in-Crts.is (c.made.ensures _ _ _ _ refl refl)

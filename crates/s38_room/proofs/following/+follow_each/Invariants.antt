@@ -1,5 +1,0 @@
-use Rattle.std.proofs.Common.{length}
-use Rattle.s38_room.proofs.following.+follow_each.Given as goal
-
-abbrev pub decreases-follow_each : goal.decreases-follow_each
-decreases-follow_each l = length l.some.now

@@ -1,0 +1,15 @@
+pub mod Held
+pub mod Parts
+pub mod LawfulParts
+pub mod PartsAt
+pub mod State
+pub mod Headers
+pub mod PrivateRows
+pub mod Access
+pub mod Invocations
+pub mod Opening
+pub mod Lending
+pub mod Cells
+pub mod Journaling
+pub mod Kept
+pub mod Keeping

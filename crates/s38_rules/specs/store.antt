@@ -1,0 +1,4 @@
+pub mod Room
+pub mod Storable
+pub mod Forcing
+pub mod Storing

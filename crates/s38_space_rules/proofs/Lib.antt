@@ -1,0 +1,12 @@
+pub mod CreationLaws
+pub mod EventGrowth
+pub mod FittingLaws
+pub mod FollowLaws
+pub mod GrowthLaws
+pub mod JournalGrowth
+pub mod ObjectGrowth
+pub mod LoggingLaws
+pub mod NumberLaws
+pub mod RowCounts
+pub mod RowLaws
+pub mod SumLaws

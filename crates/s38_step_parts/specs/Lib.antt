@@ -1,7 +1,0 @@
-pub mod Numbers
-pub mod Fronts
-pub mod Putting
-pub mod Outcomes
-pub mod Growing
-pub mod Stepping
-pub mod Leftovers

@@ -1,8 +1,0 @@
-mod KeepLaws
-mod InstallLaws
-mod OpenLaws
-mod StrayLaws
-pub mod CrashLaws
-mod WatchLaws
-mod SureLaws
-mod RoomLaws

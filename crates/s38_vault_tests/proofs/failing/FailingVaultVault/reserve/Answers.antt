@@ -1,5 +1,0 @@
-use Rattle.s38_vault_tests.proofs.FailingLaws.{holds_kept}
-use Rattle.s38_vault_tests.proofs.failing.FailingVaultVault.reserve.Goals as goal
-
-pub returns-clause-holds : goal.returns-clause-holds
-returns-clause-holds c = holds_kept c.args.self.now _ c.reserve.new.self c.self.inside.faults c.self.view_is c.reserve.ensures.holds

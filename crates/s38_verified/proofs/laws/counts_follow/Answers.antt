@@ -1,5 +1,0 @@
-use Rattle.s38_verified.proofs.RowLaws.{authority_of, frames_of_op}
-use Rattle.s38_verified.proofs.laws.counts_follow.Goals as goal
-
-pub returns : goal.returns
-returns c = record { authority = authority_of; frames = frames_of_op }

@@ -1,8 +1,0 @@
-use Rattle.std.proofs.Common.{arith}
-use Rattle.s38_words.proofs.DigitLaws.{value_behind-more}
-use Rattle.s38_words.proofs.numbers.value_behind.Goals as goal
-
-pub loop-digit-preserved : goal.loop-digit-preserved
-loop-digit-preserved c =
-    let more = value_behind-more c.args.start c.args.digits.now c.loop-digit.digit-index (omega arith) in
-    omega (arith, more)

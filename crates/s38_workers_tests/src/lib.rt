@@ -1,9 +1,0 @@
-//! Runs on threads, over machines that are told what to answer.
-#![tactic(auto)]
-
-#[cfg(test)]
-mod given;
-#[cfg(test)]
-mod meeting;
-#[cfg(test)]
-mod runs;
