@@ -2,7 +2,8 @@
 import re
 
 from . import pages
-from .deck import MOST, MOST_BYTES, MOST_LINE, split_act
+from .deck import MOST, MOST_BYTES, MOST_LINE, columns, split_act
+from .layout import line_of
 from .words import ATTRIBUTE, CODE, LINES, NAME, NUMBER, TEXT, WHOLE, digits, has_form, is_a, is_number, near
 
 
@@ -62,7 +63,7 @@ def name_fault(name, starts):
         return "a name is left out"
     odd = re.search("[^A-Z0-9]", name)
     if odd:
-        return f"the name {name} has {odd[0]}; names have A to Z and 0 to 9 alone"
+        return f"the name {name} has {'a blank' if odd[0] == ' ' else odd[0]}; names have A to Z and 0 to 9 alone"
     if len(name) > 30:
         return f"the name {name} has {len(name)} characters, and 30 are the most"
     return f"the name {name} begins with a digit" if starts and name[0].isdigit() else None
@@ -234,6 +235,43 @@ def form_fault(text):
     return fault and (blank_fault(text) or case_fault(text) or fault)
 
 
+def bare_faults(text):
+    """The faults of a line that has no blank and no letter too many: of an instruction each bad operand."""
+    word = text.split(" ")[0]
+    first = form_fault(text)
+    if first:
+        yield first
+    _, _, operands = split_act(text)
+    for column, operand in zip(columns(text), operands) if first and word in pages.rows() else ():
+        if operand and not has_form(operand):
+            yield column, word_fault(operand)
+
+
+def column_in(text, exact, column):
+    """The column in a text of what is at a column of its exact line."""
+    found = re.match(r"[^, ]+", exact[column - 1:])
+    if not found:
+        return min(column, len(text) + 1)
+    whole = rf"(?<![A-Z0-9]){re.escape(found[0].upper())}(?![A-Z0-9])"
+    before = len(re.findall(whole, exact[:column - 1].upper()))
+    places = [one.start() + 1 for one in re.finditer(whole, text.upper())]
+    return places[before] if before < len(places) else min(column, len(text) + 1)
+
+
+def form_faults(text):
+    """Each cause for which a line has no form, the first as the program would have it."""
+    first, exact = form_fault(text), line_of(text)
+    if not first:
+        return
+    yield first
+    if case_fault(text) and exact != text and case_fault(text) != first and not case_fault(text)[1].startswith("lower case in a text"):
+        yield case_fault(text)
+    for column, hint in dict.fromkeys(bare_faults(exact)):
+        place = column if exact == text else column_in(text, exact, column)
+        if (place, hint) != first:
+            yield place, hint
+
+
 # ---- the place of a line, and codes 3 to 8
 
 class Reading:
@@ -319,37 +357,47 @@ def range_fault(text):
     return place_of(words, place), said[key]
 
 
-def line_fault(reading, number, raw, ends):
-    """The least code of a line that is bad, with its column and a hint, or nothing."""
+def line_faults(reading, raw, ends):
+    """Why a line is bad, each cause with its code, its column and a hint; the first is what the program says."""
     fault = bytes_fault(raw, ends)
+    text = raw.decode("latin-1")
     if fault:
-        return "1", *fault
-    text = raw.decode("ascii")
+        yield "1", *fault
+        text = line_of(text)
+        if bytes_fault(text.encode("utf-8"), True):
+            return
     too_long = reading.size > MOST_BYTES
     if not text or text.startswith("*"):
-        return ("6", 1, f"with it the deck is longer than {MOST_BYTES} bytes") if too_long else None
+        if too_long:
+            yield "6", 1, f"with it the deck is longer than {MOST_BYTES} bytes"
+        return
     word = text.split(" ")[0]
-    fault = form_fault(text)
-    if fault and word not in (*LINES, *pages.rows()):
-        return "2", *fault
+    forms = list(form_faults(text))
+    if forms and word not in (*LINES, *pages.rows()):
+        yield from (("2", *form) for form in forms)
+        return
     place = reading.place_fault(word)
     if place:
-        return "2", 1, place
-    if fault:
-        return "2", *fault
+        yield "2", 1, place
+    yield from (("2", *form) for form in forms)
+    if not forms:
+        yield from named_faults(reading, text, word, too_long)
+
+
+def named_faults(reading, text, word, too_long):
+    """The same of a line that has a form: the codes 3 to 8."""
     seen, out, room = reading.seen_fault(text), range_fault(text), reading.room_fault(word)
     if seen:
-        return "3", len(word) + 2, seen
+        yield "3", len(word) + 2, seen
     if out:
-        return "4", *out
+        yield "4", *out
     if too_long:
-        return "6", 1, f"with it the deck is longer than {MOST_BYTES} bytes"
+        yield "6", 1, f"with it the deck is longer than {MOST_BYTES} bytes"
     if room:
-        return "7", 1, room
+        yield "7", 1, room
     name = text.split(" ")[5] if word == "JOB" else None
     if name is not None and name not in reading.templates:
-        return "8", place_of(text.split(" "), 5), f"there is no template {name}{near(name, reading.templates)}"
-    return None
+        yield "8", place_of(text.split(" "), 5), f"there is no template {name}{near(name, reading.templates)}"
 
 
 def end_fault(reading):
@@ -358,15 +406,14 @@ def end_fault(reading):
     return "END is missing after the last template" if reading.place in ("declaring", "acting") else None
 
 
-def deck_faults(deck):
-    """Every line that is bad, with the code that the program would give it, were it the first."""
+def deck_faults(deck, each=False):
+    """Every line that is bad, with the code that the program would give it, were it the first; or each cause of such a line."""
     reading, found = Reading(), []
     for number, raw in enumerate(deck.raw, 1):
         ends = deck.ends or number < len(deck.raw)
         reading.size += len(raw) + 1
-        fault = line_fault(reading, number, raw, ends)
-        if fault:
-            code, column, hint = fault
+        causes = list(line_faults(reading, raw, ends))
+        for code, column, hint in causes if each else causes[:1]:
             found.append(Fault(number, column, code, hint))
         text = raw.decode("latin-1")
         if text.strip() and not text.startswith("*"):

@@ -8,13 +8,44 @@ from .words import TEXT, is_a
 PIECE = re.compile(r"([xX]?)'((?:[^']|'')*)'|(;.*)|([ \t\u00a0]+)|(,)|([^ \t\u00a0,;']+|')")
 
 
+def lines_of(text):
+    """The lines of a text."""
+    lines = text.removeprefix("\ufeff").replace("\r\n", "\n").split("\n")
+    return lines[:-1] if lines[-1] == "" else lines
+
+
 def exact(text):
-    """The exact deck of a text, and what stays wrong with it is a matter of tools/lint."""
-    text = text.removeprefix("\ufeff").replace("\r\n", "\n")
-    lines = text.split("\n")
-    if lines[-1] == "":
-        lines.pop()
-    return "".join(line_of(line) + "\n" for line in lines)
+    """The exact deck of a text, line for line, and what stays wrong with it is a matter of tools/lint."""
+    return "".join(line_of(line) + "\n" for line in lines_of(text))
+
+
+def exact_whole(text):
+    """The same with nothing left out: a comment at the end of a line comes to a line above it."""
+    made = []
+    for line in lines_of(text):
+        comment = comment_of(line)
+        made += [plain("* " + comment)] if comment else []
+        made.append(line_of(line))
+    return "".join(line + "\n" for line in made)
+
+
+def comment_of(line):
+    """The comment at the end of a line, or nothing; that of a line of its own is none."""
+    bare = line.strip(" \t\u00a0\r")
+    if bare.startswith(("*", ";")):
+        return ""
+    found = next((piece[3] for piece in PIECE.finditer(bare) if piece[3] is not None), "")
+    return found.lstrip("; \t").rstrip()
+
+
+def unwritable(text):
+    """The first line of a text with a comment that a deck can't have as it is, or nothing."""
+    for number, line in enumerate(lines_of(text), 1):
+        bare = line.strip(" \t\u00a0\r")
+        comment = bare if bare.startswith(("*", ";")) else comment_of(line)
+        if plain(comment).count("?") != comment.count("?"):
+            return number
+    return None
 
 
 def line_of(line):

@@ -13,6 +13,7 @@ LAST = (
     (r"NOT INSTALLED|ALREADY INSTALLED|(STORE TOO SMALL|LOG DAMAGED) [0-9]+|(TWO BLOCKS|BAD IMAGE) [0-9]+ [0-9]+", 3),
     ("DISK FAULT", 4), ("DECK FAULT", 5), ("NO MEMORY", 7), (r"STORE FULL [0-9]+ [0-9]+", 8))
 LISTED = re.compile(r"^([0-9]+) ([A-Z]+/[0-9A-F]{2}/[A-Z0-9]{1,30}) IN [0-9]+ OWNER [0-9]+ PUBLIC [A-Z+]+$", re.M)
+OWNED = re.compile(r"^([0-9]+) [A-Z]+/[0-9A-F]{2}/[A-Z0-9]{1,30} IN [0-9]+ OWNER ([0-9]+) PUBLIC [A-Z+]+$", re.M)
 CHECKED = re.compile(r"([A-Z][A-Z0-9]{0,29}) (OK|([0-9A-F]{4}) ([0-9]{1,5}))")
 
 
@@ -24,6 +25,12 @@ def status_of(line):
 def listed(text):
     """The identifications of objects by their numbers, in what `list` printed."""
     return {int(number): name for number, name in LISTED.findall(text)}
+
+
+def owned(text):
+    """The names of the owners of objects by their numbers, in what `list` printed."""
+    names = {number: name.rpartition("/")[2] for number, name in listed(text).items()}
+    return {int(number): names.get(int(owner), f"object {owner}") for number, owner in OWNED.findall(text)}
 
 
 class Entry:

@@ -3,8 +3,8 @@ import html
 
 from .deck import split_act
 
-ROW, HEAD, LEFT, DOT, CHAR, BAR, TOP = 15, 26, 46, 12, 6.05, 7, 58
-MOST_ROWS = 3000
+ROW, MORE, HEAD, LEFT, DOT, CHAR, BAR, TOP, INDENT = 15, 12, 26, 46, 12, 6.05, 7, 58, 4
+MOST_ROWS, MOST_LEFT = 3000, 5
 CHANGES = ("INSDSEN", "UPDSEN", "DELDSEN")
 COLORS = {"lock": "#3b73b9", "commit": "#2e8b57", "decommit": "#c77d0a", "wait": "#f4e3a1", "refused": "#c0182b",
           "ok": "#222222", "lane": "#b8b8b8", "head": "#e8eef5", "position": "#8a8a8a", "said": "#5a6472"}
@@ -94,10 +94,10 @@ class Picture:
         for number, job in enumerate(story.deck.jobs, 1):
             self.stages.setdefault(job.stage, []).append(number)
         crowd = max([len(jobs) for jobs in self.stages.values()] or [1])
-        self.chars = 66 if crowd <= 2 else 46 if crowd <= 4 else 22 if crowd <= 12 else 10
+        self.chars = 66 if crowd <= 2 else 46 if crowd <= 4 else 30
         self.width = self.slots * BAR + 2 * DOT + self.chars * CHAR + 10
         self.total = LEFT + crowd * self.width + 8
-        self.y, self.parts, self.rows = TOP, [], []
+        self.y, self.parts, self.rows, self.lines = TOP, [], [], []
         self.lay_out()
 
     def lay_out(self):
@@ -108,15 +108,33 @@ class Picture:
                 stage = step.job.stage
                 self.heads(stage)
             self.rows.append(self.y)
-            self.y += ROW
+            self.lines.append(list(self.wrapped(step)))
+            self.y += ROW + MORE * (1 + max([place for place, _, _, _ in self.lines[-1]], default=0) - 1)
+
+    def wrapped(self, step):
+        """The texts of an entry: in which line of its row, after how many characters, what, and whether it is the result. Nothing
+        is cut: what is too long for a lane goes on in the next line."""
+        what, left = step.text or step.entry.name, 2 * min(step.depth, MOST_LEFT)
+        room = self.chars - left
+        receiver = self.story.receiver(step)
+        said = "" if step.said in ("done", "waits") else f"{receiver + ' = ' if receiver else ''}{step.said}"
+        place = 0
+        for place, piece in enumerate(pieces(what, room)):
+            yield place, left, piece, False
+        if said and place == 0 and len(what) + 2 + len(said) <= room:
+            yield 0, left + len(what) + 2, said, True
+        elif said:
+            for more, piece in enumerate(pieces(said, room - INDENT), place + 1):
+                yield more, left + INDENT, piece, True
 
     def heads(self, stage):
         self.y += 6
         self.parts.append(f'<rect x="0" y="{self.y}" width="{self.total:.0f}" height="20" fill="{COLORS["head"]}"/>')
         for lane, number in enumerate(self.stages[stage]):
             job = self.story.deck.jobs[number - 1]
-            said = f"{job.name}  {job.user} runs {job.template}"[:self.chars + 4]
-            self.text(LEFT + lane * self.width + 2, self.y + 14, said, "ok", bold=True)
+            said = f"{job.name}  {job.user} runs {job.template}"
+            for place, piece in enumerate(pieces(said, self.chars)):
+                self.text(LEFT + lane * self.width + 2, self.y + 14 + place * 8, piece, "ok", bold=True)
         self.y += HEAD
 
     def lane(self, number):
@@ -156,13 +174,10 @@ class Picture:
         radius = 3.6 if step.result == "waits" else 3
         fill = "#ffffff" if step.result == "waits" else COLORS[color]
         self.parts.append(f'<circle cx="{x:.1f}" cy="{y + 8}" r="{radius}" fill="{fill}" stroke="{COLORS[color]}"/>')
-        what = step.text or step.entry.name
-        receiver = self.story.receiver(step)
-        said = "" if step.said in ("done", "waits") else f"{receiver + ' = ' if receiver else ''}{step.said}"
-        room = max(self.chars - len(what) - 2, 0)
-        self.text(x + 9, y + 11, cut(what, self.chars), color, title=f"line {', '.join(map(str, step.lines))}" if step.lines else None)
-        if said and room > 6:
-            self.text(x + 9 + (len(what) + 2) * CHAR, y + 11, cut(said, room), "refused" if color == "refused" else "said")
+        for place, at, piece, is_result in self.lines[row]:
+            title = f"line {', '.join(map(str, step.lines))}" if step.lines and not place and not is_result else None
+            shown = "said" if is_result and color != "refused" else color
+            self.text(x + 9 + at * CHAR, y + 11 + place * MORE, piece, shown, title=title)
 
     def spans(self):
         """Of each job its first and its last row, and the rows for which it waits."""
@@ -203,8 +218,14 @@ class Picture:
             x += 28 + len(said) * 7
 
 
-def cut(said, most):
-    return said if len(said) <= most else said[:max(most - 2, 1)] + ".."
+def pieces(said, most):
+    """A text in pieces of at most so many characters, parted at blanks and commas where there are some."""
+    while len(said) > most:
+        at = max(said.rfind(" ", most // 2, most + 1), said.rfind(",", most // 2, most) + 1)
+        at = at if at > 0 else most
+        yield said[:at].rstrip(" ")
+        said = said[at:].lstrip(" ")
+    yield said
 
 
 def drawn(story):

@@ -10,9 +10,10 @@ import subprocess
 from . import demo, stores
 from .log import LISTED
 from .program import PROGRAM
+from .reading import raw_parts as parts_in
 
 SECONDS = 60
-BLOCK, FIRST_HOME = stores.BLOCK, stores.FIRST_HOME
+BLOCK = stores.BLOCK
 GATE, UP = 1, 0x4F
 FIRST_STORE_GAVE = 5
 PROBE = "PROGRAM P\nDCL Q PTR\nCRTQ Q,*NONE,QUEUE/00/NEW,NONE,FIFO,0,8\nRTX\nEND\nSTAGE\nJOB A USER QSECOFR RUN P\n"
@@ -38,11 +39,7 @@ def call(path, words, deck=""):
 
 def parts_of(path):
     """What the homes of a store have: tags and page by number and part."""
-    with open(path, "rb") as file:
-        file.seek(FIRST_HOME * BLOCK)
-        data = file.read()
-    blocks = (data[at:at + BLOCK].ljust(BLOCK, b"\0") for at in range(0, len(data), BLOCK))
-    return {block[:12]: block[12:] for block in blocks if any(block[:8])}
+    return parts_in(pathlib.Path(path).read_bytes())
 
 
 def given_in(log):

@@ -18,7 +18,7 @@ def instruction(mnemonic):
     """The lines of the entry of a mnemonic, with those that its section has for all of its entries."""
     for part in re.split(r"^## ", pages.prose(pages.page("REFERENCE.md")), flags=re.M)[1:]:
         head, _, text = part.partition("\n")
-        blocks = text.split("\n\n")
+        blocks = text.strip("\n").split("\n\n")
         for block in blocks:
             found = in_table(block, mnemonic) or in_paragraph(block, mnemonic)
             if found:

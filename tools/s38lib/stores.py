@@ -74,10 +74,15 @@ def first_store():
     return filled(LABEL, FIRST_HOME * BLOCK) + b"".join(homes(FIRST))
 
 
-def write_first(path):
-    """Writes the first store as a file. The gate and the log are left out, and read as zeros too."""
+def put_first(file):
+    """Writes the first store to a file that is open and empty. The gate and the log are left out, and read as zeros too."""
     data = first_store()
+    file.write(data[:BLOCK])
+    file.seek(FIRST_HOME * BLOCK)
+    file.write(data[FIRST_HOME * BLOCK:])
+
+
+def write_first(path):
+    """Writes the first store as a new file."""
     with open(path, "xb") as file:
-        file.write(data[:BLOCK])
-        file.seek(FIRST_HOME * BLOCK)
-        file.write(data[FIRST_HOME * BLOCK:])
+        put_first(file)

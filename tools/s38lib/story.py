@@ -13,19 +13,68 @@ class Step:
 
     def __init__(self, entry, job, lines, result, said):
         self.entry, self.job, self.lines, self.result, self.said = entry, job, lines, result, said
+        self.depth, self.acting, self.waited, self.ended_by = 0, [entry.job.user], None, None
         self.text = next(iter(lines.values()))[0] if len(lines) == 1 else None
         self.template = next(iter(lines.values()))[1] if len(lines) == 1 else None
         self.objects = {}  # the numbers of the objects of the operands, by place, if they are known
+
+
+class Waits:
+    """Who waits, and which entry ends a wait: the last one before it that can have given what was waited for; of one that is
+    refused because all wait, the last one of another job, which waits since or has ended."""
+
+    GIVING = {"ENQ": "DEQ", "UNLOCK": "LOCK", "XFRLOCK": "LOCK", "FINISH": "LOCK"}
+
+    def __init__(self):
+        self.waiting, self.others, self.held = {}, [], {}  # by job the step that began its wait; all steps; locks by job and object
+
+    def take(self, step):
+        job = step.entry.job.number
+        begun = self.waiting.get(job)
+        if step.result == "waits":
+            self.waiting.setdefault(job, step)
+            step.waited = begun.entry.position if begun else None
+        elif begun and begun.entry.name == step.entry.name:
+            step.waited = self.waiting.pop(job).entry.position
+            step.ended_by = self.giver(begun, step)
+        self.others.append((step, dict(self.held.get(job, {})) if step.entry.name == "FINISH" else {}))
+        self.hold(step, job)
+
+    def hold(self, step, job):
+        """Notes the locks that a job has."""
+        change = {"LOCK": 1, "UNLOCK": -1, "XFRLOCK": -1}.get(step.entry.name, 0)
+        if change and step.entry.ok and 1 in step.objects:
+            locks = self.held.setdefault(job, {})
+            locks[step.objects[1]] = locks.get(step.objects[1], 0) + change
+
+    def giver(self, begun, step):
+        """The step that ended a wait, or nothing where it is not known."""
+        wanted = step.objects.get(2 if step.entry.name == "DEQ" else 1)
+        for other, had in reversed(self.others):
+            if other.entry.position < begun.entry.position:
+                return None
+            if other.entry.job is not step.entry.job and (step.entry.code == "1A04" or self.gives(other, had, step, wanted)):
+                return other
+        return None
+
+    def gives(self, other, had, step, wanted):
+        if self.GIVING.get(other.entry.name) != step.entry.name:
+            return False
+        if other.entry.name == "FINISH":
+            return any(had.values()) if wanted is None else had.get(wanted, 0) > 0
+        return other.entry.ok and (wanted is None or other.objects.get(1) == wanted)
 
 
 class Story:
     """The steps of a log in the order of their positions, and what they did. Objects that the run found in its store have
     the names that are handed in; without them it was the first store."""
 
-    def __init__(self, deck, log, names=None):
+    def __init__(self, deck, log, names=None, owners=None):
         self.deck, self.log = deck, log
         self.names, self.steps = dict(names or FIRST_STORE), []
+        self.owners = dict(owners or dict.fromkeys(FIRST_STORE, "QSECOFR"))  # the name of each object's owner, by its number
         self.walker, self.states, self.last = walk(deck, log)
+        self.waits, self.gone = Waits(), set()
         for entry in log.history():
             self.steps.append(self.tell(entry))
 
@@ -42,9 +91,27 @@ class Story:
         step = Step(entry, self.deck.job(entry.job.number), lines, "", "")
         if step.text:
             self.find_objects(step, states)
+            self.find_frames(step, states)
             self.learn(step)
         step.result, step.said = self.result(step)
+        self.waits.take(step)
         return step
+
+    def find_frames(self, step, states):
+        """How deep in calls it is, and the users who act, if all ways agree: the job's, and the owners of programs that adopt."""
+        depths = {len(state.frames) for state in states}
+        acting = {tuple(self.acting(step.entry.job.user, state.frames)) for state in states}
+        step.depth = depths.pop() - 1 if len(depths) == 1 else 0
+        step.acting = list(acting.pop()) if len(acting) == 1 else [step.entry.job.user]
+
+    def acting(self, user, frames):
+        found = [user]
+        for place, frame in enumerate(frames):
+            template = self.deck.templates[frame.template]
+            if frame.program != 0 and frame.program not in self.gone and template.adopts and (frame is frames[-1] and place == len(frames) - 1 or template.propagates):
+                owner = self.owners.get(frame.program, f"the owner of {self.name(frame.program) if frame.program else frame.template}")
+                found += [owner] if owner not in found else []
+        return found
 
     def find_objects(self, step, states):
         """The objects of the pointers among the operands, if all ways agree."""
@@ -53,12 +120,21 @@ class Story:
             if len(found) == 1 and None not in found:
                 step.objects[place] = found.pop()
 
+    def is_based(self, step, word):
+        """Whether a word of an entry's line is an item in a space."""
+        return step.template in self.walker.codes and self.walker.codes[step.template].is_based(word)
+
     def learn(self, step):
         """The names of objects, by what made, found or renamed them."""
         mnemonic, _, operands = split_act(step.text)
         number = object_in(step.entry.value) if step.entry.value else None
         if mnemonic in MADE and number is not None:
             self.names[number] = operands[pages.rows()[mnemonic].index("I")]
+            self.owners[number] = step.entry.job.user
+        elif mnemonic == "DESPG" and step.entry.ok and 1 in step.objects:
+            self.gone.add(step.objects[1])
+        elif mnemonic == "XFRO" and step.entry.ok and 1 in step.objects:
+            self.owners[step.objects[1]] = self.name(step.objects.get(2)).rpartition("/")[2]
         elif mnemonic == "RSLVSP" and number is not None:
             self.names[number] = operands[2]
         elif mnemonic == "RENAME" and step.entry.ok and 1 in step.objects:

@@ -14,8 +14,9 @@ from .values import scalar
 from .words import is_a, is_number, length_of
 
 # A frame of the stack: the template, the place in its code, the places to come back to, the descriptions that are off,
-# and for each parameter the variable that it is.
-Frame = collections.namedtuple("Frame", "template at calls off homes")
+# for each parameter the variable that it is, and the number of its program, 0 for the job's own template and nothing where it is
+# not known.
+Frame = collections.namedtuple("Frame", "template at calls off homes program")
 # A state: the frames, and what the log told of variables, by depth and name: the number of the object of a pointer, or
 # bytes in hexadecimal.
 State = collections.namedtuple("State", "frames known")
@@ -104,7 +105,7 @@ class Walker:
 
     def begin(self, template):
         code = self.codes[template]
-        return State((Frame(template, 0, (), (), tuple((name, (-1, name)) for name in code.parameters)),), ())
+        return State((Frame(template, 0, (), (), tuple((name, (-1, name)) for name in code.parameters), 0),), ())
 
     def move(self, state, at):
         return state._replace(frames=(*state.frames[:-1], state.frames[-1]._replace(at=at)))
@@ -145,7 +146,7 @@ class Walker:
         frames = state.frames[:-1] if transfers else state.frames
         depth = len(frames)
         kept = tuple(pair for pair in state.known if pair[0][0] < depth)
-        return State((*frames, Frame(template, 0, (), (), homes)), kept)
+        return State((*frames, Frame(template, 0, (), (), homes, self.object_of(state, operands[0]))), kept)
 
     # ---- what has no entry
 
@@ -320,10 +321,20 @@ class Walker:
         return [self.enter(state, operands, name, mnemonic == "XCTL") for name in fitting]
 
 
+class Number(int):
+    """The number of an object, with the rights that the pointer to it carries."""
+
+    rights = 0
+
+
 def object_in(value):
     """The number of the object of a pointer as a log prints it."""
     digits = value[1:].partition("/")[0].partition("+")[0]
-    return int(digits) if value[:1] in ("S", "A", "D") and is_a("[0-9]{1,20}", digits) else None
+    if value[:1] not in ("S", "A", "D") or not is_a("[0-9]{1,20}", digits):
+        return None
+    number = Number(digits)
+    number.rights = int(value[-2:], 16) if is_a("S[0-9]+/[0-9A-F]{2}", value) else 0
+    return number
 
 
 def may_signal(text):
