@@ -1,10 +1,11 @@
-//! Rights that were found are used again: how many rows a process's puts visit.
+//! Rights that were found are used again: how many rows a process's puts visit. What an event comes to is told beforehand.
 ghost use Rattle.std.specs.Prelude.{◌≡◌};
 ghost use Rattle.s38_rules.specs.step.Legal.{IsProcess, IsSound};
 
 use s38_base::{Attr, Bytes, HeldPointer, Name, ObjNum, Op, Pointer, Rights, Seq};
 use s38_code::{Event, Job, Operand, Operands, Reply, Request, Stepper};
 use s38_machine::{Machine, general_opening};
+use s38_rules::Verdict;
 use std::alloc::Global;
 use std::test::Fail;
 
@@ -16,8 +17,13 @@ const LOCKED: Pointer = Pointer::System {
 
 /// A put of one byte into it.
 fn put(alloc: Global) -> Result<Event, Fail> {
+    put_by(alloc, Some(LOCKED))
+}
+
+/// A put of one byte by a pointer, or by one that is not set.
+fn put_by(alloc: Global, pointer: Option<Pointer>) -> Result<Event, Fail> {
     let mut operands = Vec::new(alloc);
-    operands.push(Operand::Ptr(HeldPointer::of(Some(LOCKED))))?;
+    operands.push(Operand::Ptr(HeldPointer::of(pointer)))?;
     operands.push(Operand::Nothing)?;
     operands.push(Operand::Value {
         attr: Attr::Chars { len: 1 },
@@ -135,5 +141,27 @@ fn waits(alloc: Global) -> Result<bool, Fail> {
 #[test]
 fn a_job_of_a_later_stage_waits(rt: HostRuntime) -> Result<(), Fail> {
     assert!(rt; waits(rt.alloc())?);
+    Ok(())
+}
+
+/// What the start of the first job, that of the second, and a put by a pointer that is not set would come to.
+fn verdicts(alloc: Global) -> Result<(Verdict, Verdict, Verdict), Fail> {
+    let jobs = jobs(alloc)?;
+    let objects = general_opening(alloc)?;
+    let unset = put_by(alloc, None)?;
+    let machine = Machine::start(alloc, objects, Seq::new(alloc), jobs.as_slice())?;
+    Ok((
+        machine.verdict(1, &Event::Start),
+        machine.verdict(2, &Event::Start),
+        machine.verdict(1, &unset),
+    ))
+}
+
+#[test]
+fn verdicts_are_told_beforehand(rt: HostRuntime) -> Result<(), Fail> {
+    let (first, second, unset) = verdicts(rt.alloc())?;
+    assert_eq!(rt; first, Verdict::Permit);
+    assert_eq!(rt; second, Verdict::Wait);
+    assert!(rt; matches!(unset, Verdict::Refuse(_)));
     Ok(())
 }
