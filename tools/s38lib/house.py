@@ -35,6 +35,11 @@ def is_tests(crate):
     return bool(TESTS.fullmatch(crate))
 
 
+def pages():
+    """The pages: README.md, those of docs/, and those for developers in docs/internals/."""
+    return [TOP / "README.md", *sorted(TOP.glob("docs/*.md")), *sorted(TOP.glob("docs/internals/*.md"))]
+
+
 @functools.lru_cache(None)
 def text(path):
     return path.read_text(encoding="utf-8")
