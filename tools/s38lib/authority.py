@@ -4,6 +4,7 @@ from . import pages
 from .deck import MADE, split_act
 from .reading import MACHINE
 from .values import rights_of
+from .walk import object_in
 
 ALL, ALLOBJ, PROFILE = 0xFF, 0x80, 0x40
 SPECIALS = {"NONE": 0, "ALLOBJ": ALLOBJ, "PROFILE": PROFILE, "ALLOBJ+PROFILE": ALLOBJ | PROFILE}
@@ -93,14 +94,15 @@ class Authority:
             del self.rights[step.objects[1]]
 
     def make(self, step, mnemonic, operands):
-        from .walk import object_in
         owner = self.number_of(step.entry.job.user)
         in_machine = mnemonic in ("CRTCTX", "CRTUP")
         public = "NONE" if mnemonic == "CRTUP" else operands[2 if in_machine else 3]
         made = Rights(MADE[mnemonic], owner, bits_of(public), {owner: ALL}, SPECIALS.get(operands[2], 0) if mnemonic == "CRTUP" else 0)
         made.context = MACHINE if in_machine else int(step.objects[2]) if 2 in step.objects else 0
         made.space = int(step.objects[5]) if mnemonic == "CRTCR" and 5 in step.objects else None
-        self.rights[int(object_in(step.entry.value))] = made
+        at = object_in(step.entry.value or "")
+        if at is not None:
+            self.rights[int(at)] = made
 
     def grant(self, one, user, operands, gives):
         bits = bits_of(operands[2])
@@ -154,7 +156,7 @@ class Authority:
     def resolved(self, step, name):
         """The object that RSLVSP found, or that it would have found, by its name; nothing where it is not known."""
         if step.entry.value and step.entry.value.startswith("S"):
-            at = int(step.entry.value[1:].partition("/")[0])
-            return at if at in self.rights else None
+            at = object_in(step.entry.value)
+            return int(at) if at is not None and int(at) in self.rights else None
         found = [at for at in self.rights if self.story.names.get(at) == name]
         return found[0] if len(found) == 1 else None

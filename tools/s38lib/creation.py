@@ -76,6 +76,8 @@ class Names:
 def operands_fault(text):
     """2A04: the operands are not those of the row."""
     mnemonic, rounds, operands = split_act(text)
+    if mnemonic not in pages.rows():  # a line that is no instruction, of a deck that is refused
+        return 1, f"there is no mnemonic {mnemonic}"
     most, least = pages.most_operands(mnemonic)
     if not least <= len(operands) <= most:
         column = columns(text)[most] if len(operands) > most else len(text) + 1

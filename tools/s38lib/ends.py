@@ -244,7 +244,7 @@ def status_said(status, path, words):
     deck = deck_name() if status == 2 else "DECK"
     said = {1: [f"these words are no command{near_command(words)}; next: ./s38 {path} serial < DECK, or ./s38 --help"],
             2: [f"the deck is refused at the line that is named, nothing was run, and the store is as it was; next: tools/lint {deck}"],
-            4: [f"{disk_cause(path)}; next: ./s38 {path} list"],
+            4: [f"{disk_cause(path)}; next: ./s38 {os.path.join(path, 'my.store') if os.path.isdir(path) else path} list"],
             5: [f"the deck can't be read, and nothing was run; next: ./s38 {path} {command or 'serial'} < DECK"],
             6: ["the output can't be written: the disk is full, or the reader has gone; what the jobs did is kept all the same, if they ran; "
                 f"next: ./s38 {path} list"],

@@ -38,7 +38,9 @@ def install(store):
 
 def missing(store):
     """A file that is not there, and what may have been meant."""
-    said(looks.missing(store), f"next: ./s38 {store} install makes a store there, and tools/first-store {store} one for the decks of the pages")
+    folder = pathlib.Path(store).parent
+    first = "" if folder.is_dir() else f"mkdir -p {folder}, and then "
+    said(looks.missing(store), f"next: {first}./s38 {store} install makes a store there, and tools/first-store {store} one for the decks of the pages")
     return 0
 
 

@@ -34,13 +34,14 @@ def of_kind(mode):
 
 
 def text_looks(data):
-    """What a text is: a deck, a log, or another one."""
-    lines = data.decode("utf-8").split("\n")
-    if any(re.fullmatch(r"PROGRAM [A-Z][A-Z0-9]*.*|STAGE|JOB \S+ USER \S+ RUN .*", line) for line in lines[:200]):
+    """What a text is, by the line with which it begins: a deck, after its comments, a log, or another one."""
+    lines = [line.strip() for line in data.decode("utf-8").split("\n") if line.strip()]
+    line = next((line for line in lines if line[0] not in "*;"), "")
+    if re.fullmatch(r"PROGRAM [A-Z][A-Z0-9]*.*|STAGE|JOB \S+ USER \S+ RUN .*", line, re.I):
         return "a deck"
-    if any(re.fullmatch(r"JOB [0-9]+ \S+ USER \S+|DONE [0-9]+|[0-9]+ [A-Z]+/[0-9A-F]{2}/\S+ IN [0-9]+ OWNER .*", line) for line in lines[:200]):
+    if re.fullmatch(r"JOB [0-9]+ \S+ USER \S+|DONE [0-9]+|BAD DECK [0-9]+ [0-9]|[0-9]+ [A-Z]+/[0-9A-F]{2}/\S+ IN [0-9]+ OWNER .*", line):
         return "a log"
-    first = next((line.strip() for line in lines if line.strip()), "")
+    first = lines[0] if lines else ""
     return f"a text that begins with \"{first[:40]}{'..' if first[40:] else ''}\"" if first else "a text of blanks"
 
 

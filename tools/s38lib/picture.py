@@ -2,6 +2,7 @@
 import html
 
 from .deck import split_act
+from .walk import object_in
 
 ROW, MORE, HEAD, LEFT, DOT, CHAR, BAR, TOP, INDENT = 15, 12, 26, 46, 12, 6.05, 7, 58, 4
 MOST_ROWS, MOST_LEFT = 3000, 5
@@ -40,8 +41,8 @@ class Bars:
     def take(self, row, step):
         mnemonic, _, operands = split_act(step.text)
         job, objects = step.entry.job.number, step.objects
-        if mnemonic == "CRTCR" and 6 in objects and step.entry.value:
-            self.blocks[int(step.entry.value[1:].split("/")[0])] = objects[6]
+        if mnemonic == "CRTCR" and 6 in objects and object_in(step.entry.value or "") is not None:
+            self.blocks[object_in(step.entry.value)] = objects[6]
         elif mnemonic == "LOCK" and 1 in objects:
             name = f"{operands[1]} on {self.story.name(objects[1])}"
             self.locks.setdefault((job, objects[1], operands[1]), []).append(self.open(job, "lock", row, name))

@@ -33,7 +33,7 @@ class Session:
         text = line_of(typed)
         if not text or text.startswith("*"):
             return []
-        fault = bytes_fault(text.encode("utf-8"), True) or form_fault(text)
+        fault = bytes_fault(text.encode("utf-8", "surrogateescape"), True) or form_fault(text)
         if fault:
             raise Refused(fault[1], fault[0])
         word = text.split(" ")[0]
