@@ -15,6 +15,14 @@ class Template:
         self.declarations, self.instructions, self.labels = [], [], {}
         self.code = []  # instructions and labels in their order: line, text
 
+    def moved(self, name, by):
+        """The same by another name, with lines that are counted on from others."""
+        made = Template(name, self.line + by)
+        made.end, made.adopts, made.propagates, made.labels = self.end + by, self.adopts, self.propagates, self.labels
+        made.declarations, made.instructions, made.code = ([(line + by, text) for line, text in lines]
+                                                           for lines in (self.declarations, self.instructions, self.code))
+        return made
+
     def declared(self):
         """Each name, with its first line and the words after it."""
         names = {}

@@ -43,7 +43,7 @@ def entries(story, store):
         code = step.entry.code or (step.entry.words[1] if step.entry.name == "FINISH" and step.entry.words[1:] else "")
         yield {"at": step.entry.position, "job": step.entry.job.number, "text": step.text or step.entry.name, "depth": step.depth,
                "result": step.result, "said": f"{receiver} = {step.said}" if receiver else step.said, "code": code,
-               "lines": list(step.lines), "template": step.template or step.job.template, "objects": sorted({int(at) for at in step.objects.values()}),
+               "lines": list(step.lines), "places": step.places, "objects": sorted({int(at) for at in step.objects.values()}),
                "operands": operands(story, step), "why": [line.strip() for line in why[1:]], "working": working, "waiting": waiting,
                "ended": step.ended_by.entry.position if step.ended_by else None}
 
@@ -55,7 +55,7 @@ def data(story, store=None):
     touched = sorted({at for entry in shown for at in entry["objects"]})
     return {"jobs": [{"number": number, "name": job.name, "user": job.user, "template": job.template, "stage": job.stage}
                      for number, job in enumerate(story.deck.jobs, 1)],
-            "entries": shown, "left": len(many) - len(shown), "deck": story.deck.lines,
+            "entries": shown, "left": len(many) - len(shown), "deck": story.lines,
             "objects": {str(at): story.name(at) for at in touched}}
 
 
@@ -175,7 +175,7 @@ function drawSide(now) {
   side.textContent = "";
   side.append(one("h2", "entry " + entry.at + ", job " + jobs.get(entry.job).name), one("p", entry.text + "  ->  " + entry.said));
   if (entry.lines.length) {
-    side.append(one("h2", (entry.lines.length > 1 ? "one of lines " : "line ") + entry.lines.join(", ") + " of the deck, in " + entry.template));
+    side.append(one("h2", (entry.lines.length > 1 ? "one of lines " : "line ") + entry.places.join(", ")));
     const shown = one("pre"), first = Math.max(entry.lines[0] - 4, 0);
     data.deck.slice(first, entry.lines[entry.lines.length - 1] + 3).forEach((text, place) => {
       const number = first + place + 1;

@@ -176,7 +176,7 @@ class Picture:
         fill = "#ffffff" if step.result == "waits" else COLORS[color]
         self.parts.append(f'<circle cx="{x:.1f}" cy="{y + 8}" r="{radius}" fill="{fill}" stroke="{COLORS[color]}"/>')
         for place, at, piece, is_result in self.lines[row]:
-            title = f"line {', '.join(map(str, step.lines))}" if step.lines and not place and not is_result else None
+            title = f"line {', '.join(step.places)}" if step.lines and not place and not is_result else None
             shown = "said" if is_result and color != "refused" else color
             self.text(x + 9 + at * CHAR, y + 11 + place * MORE, piece, shown, title=title)
 

@@ -89,7 +89,7 @@ def refused_told(step):
 
 def reasons(authority, step):
     """Why an entry is what it is, line by line."""
-    told = [f"entry {step.entry.position}, job {step.job.name}" + (f", line {', '.join(map(str, step.lines))}" if step.lines else "")
+    told = [f"entry {step.entry.position}, job {step.job.name}" + (f", line {', '.join(step.places)}" if step.lines else "")
             + f": {step.text or step.entry.name} -> {step.said}"]
     if step.text:
         told.append(acting_told(step))

@@ -16,6 +16,7 @@ class Step:
         self.depth, self.acting, self.waited, self.ended_by = 0, [entry.job.user], None, None
         self.text = next(iter(lines.values()))[0] if len(lines) == 1 else None
         self.template = next(iter(lines.values()))[1] if len(lines) == 1 else None
+        self.places = [str(line) for line in lines]  # the same lines in words
         self.objects = {}  # the numbers of the objects of the operands, by place, if they are known
 
 
@@ -67,19 +68,35 @@ class Waits:
 
 class Story:
     """The steps of a log in the order of their positions, and what they did. Objects that the run found in its store have
-    the names that are handed in; without them it was the first store."""
+    the names that are handed in; without them it was the first store. Where the store is at hand, lines of its programs are known:
+    they are counted on after those of the deck."""
 
-    def __init__(self, deck, log, names=None, owners=None):
-        self.deck, self.log = deck, log
+    def __init__(self, deck, log, names=None, owners=None, store=None):
+        self.deck, self.log, self.lines, self.stored = deck, log, list(deck.lines), []
+        programs = {one.number: one for one in store.objects.values() if one.kind == "PROGRAM"} if store else {}
+        stored = {number: self.take_program(one) for number, one in programs.items()}
         self.names, self.steps = dict(names or FIRST_STORE), []
         self.owners = dict(owners or dict.fromkeys(FIRST_STORE, "QSECOFR"))  # the name of each object's owner, by its number
-        self.walker, self.states, self.last = walk(deck, log)
+        self.walker, self.states, self.last = walk(deck, log, stored)
         self.waits, self.gone = Waits(), set()
         for entry in log.history():
             self.steps.append(self.tell(entry))
 
     def name(self, number):
         return self.names.get(number, f"object {number}")
+
+    def take_program(self, one):
+        """The template of a program of the store, whose lines come after those that there are."""
+        name = f"{one.identification} of the store, object {one.number}"
+        self.stored.append((len(self.lines), one.name))
+        template = one.body.template.moved(name, len(self.lines))
+        self.lines += one.body.text.rstrip("\n").split("\n")
+        return template
+
+    def place(self, line):
+        """A line in words: its number in the deck, or in a program of the store."""
+        before, name = next(((before, name) for before, name in reversed(self.stored) if before < line), (0, None))
+        return f"{line - before} of {name}" if name else str(line)
 
     def job_name(self, number):
         job = self.deck.job(number)
@@ -89,6 +106,7 @@ class Story:
         states = self.states.get(entry.position, [])
         lines = places(self.walker, states)
         step = Step(entry, self.deck.job(entry.job.number), lines, "", "")
+        step.places = [self.place(line) for line in lines]
         if step.text:
             self.find_objects(step, states)
             self.find_frames(step, states)
@@ -107,7 +125,7 @@ class Story:
     def acting(self, user, frames):
         found = [user]
         for place, frame in enumerate(frames):
-            template = self.deck.templates[frame.template]
+            template = self.walker.templates[frame.template]
             if frame.program != 0 and frame.program not in self.gone and template.adopts and (frame is frames[-1] and place == len(frames) - 1 or template.propagates):
                 owner = self.owners.get(frame.program, f"the owner of {self.name(frame.program) if frame.program else frame.template}")
                 found += [owner] if owner not in found else []
@@ -225,7 +243,7 @@ class Story:
         found = set()
         for line, (text, template) in step.lines.items():
             operands = split_act(text)[2]
-            found.add(self.deck.templates[template].attribute(operands[0]) if operands else None)
+            found.add(self.walker.templates[template].attribute(operands[0]) if operands else None)
         return values.scalar(data, found.pop() if len(found) == 1 else None)
 
     def receiver(self, step):

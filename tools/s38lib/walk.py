@@ -69,11 +69,16 @@ def family_of():
 
 
 class Walker:
-    """The templates of a deck, and the objects that are known to be programs."""
+    """The templates of a deck, those of the programs that were in the store, by their numbers, and the objects that are known to be
+    programs."""
 
-    def __init__(self, deck):
-        self.codes = {name: Code(template) for name, template in deck.templates.items() if not template_faults(template)}
+    def __init__(self, deck, stored):
+        self.templates = {**deck.templates, **{template.name: template for template in stored.values()}}
+        self.codes = {name: Code(template) for name, template in self.templates.items() if not template_faults(template)}
         self.programs = collections.defaultdict(set)  # the number of an object: the templates that it may be made of
+        for number, template in stored.items():
+            self.programs[number].add(template.name)
+        self.stored = {number: template.name for number, template in stored.items()}
 
     # ---- what is known of variables
 
@@ -309,7 +314,9 @@ class Walker:
             value = object_in(entry.value) if attribute == "PTR" else self.whole(attribute, entry.value)
             state = self.with_value(state, name, value)
         if mnemonic == "CRTPG" and entry.value:
-            self.programs[object_in(entry.value)].add(operands[4])
+            made = object_in(entry.value)
+            self.programs[made].discard(self.stored.get(made))  # the store is the one after the run
+            self.programs[made].add(operands[4])
         return [self.move(state, frame.at + 1)]
 
     def entered(self, state, mnemonic, operands):
@@ -415,10 +422,10 @@ class Ways:
         return kept[::-1]
 
 
-def walk(deck, log):
-    """The walker; for each entry of a log, by its position, the states in which its job may have been; and for each job,
+def walk(deck, log, stored):
+    """The walker, with the programs that were in the store; for each entry of a log, by its position, the states in which its job may have been; and for each job,
     by its number, those after its last entry but the end."""
-    walker = Walker(deck)
+    walker = Walker(deck, stored)
     ways = {job.number: Ways(walker, deck.job(job.number)) for job in log.jobs}
     for entry in log.history():
         ways[entry.job.number].take(entry)
