@@ -129,10 +129,14 @@ def mismatch(deck, log):
 
 
 def entry_fault(deck, log):
-    """An entry whose name is no instruction, or nothing."""
+    """An entry whose name is no instruction, or whose position can't be, or nothing."""
     known = {"START", "FINISH", *pages.rows()}
     odd = next((entry for entry in log.history() if entry.name not in known), None)
-    return f"line {odd.line} of the log names {odd.name}, which is no instruction" if odd else None
+    if odd:
+        return f"line {odd.line} of the log names {odd.name}, which is no instruction"
+    odd = next((entry for number, entry in enumerate(log.history(), 1) if entry.position != number), None)
+    odd = odd or next((entry for job in log.jobs for last, entry in zip(job.entries, job.entries[1:]) if entry.position <= last.position), None)
+    return f"line {odd.line} of the log has the position {odd.position}, and the positions of a log go from 1 on" if odd else None
 
 
 # The statuses after which the deck was read and is a good one.

@@ -423,8 +423,8 @@ class Ways:
 
 
 def walk(deck, log, stored):
-    """The walker, with the programs that were in the store; for each entry of a log, by its position, the states in which its job may have been; and for each job,
-    by its number, those after its last entry but the end."""
+    """The walker, with the programs that were in the store; for each entry of a log, by its position, the states in which its job
+    may have been; and for each job, by its number, those after its last entry but the end."""
     walker = Walker(deck, stored)
     ways = {job.number: Ways(walker, deck.job(job.number)) for job in log.jobs}
     for entry in log.history():
