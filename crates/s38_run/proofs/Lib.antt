@@ -1,3 +1,4 @@
+pub mod AgainLaws
 pub mod Asking
 mod EndLaws
 pub mod HistoryLaws

@@ -1,9 +1,11 @@
--- Progress: no process is left alone with those that wait, and who waits asks for nothing before an effect.
+-- Progress: no process is left alone with those that wait, and who waits asks for nothing before an effect, and then for the
+-- same again.
 use Rattle.std.specs.Prelude.{◌≡◌, ◌==◌, ℕ, Bool, false, true, List, [], ◌∷◌, Some, slice_get}
 use Rattle.std.specs.List.{list_any}
 use Rattle.s38_code.specs.declared.entry.Entry.{Entry}
 use Rattle.s38_code.specs.declared.reply.Reply.{Reply}
 use Rattle.s38_code.specs.declared.reply.Reply.TheVariants.{Done, MustWait, Signal}
+use Rattle.s38_code.specs.History.{entries_of}
 use Rattle.s38_rules.specs.declared.process.ProcessEntry.{ProcessEntry}
 use Rattle.s38_rules.specs.state.State.{State, ready_list}
 use Rattle.s38_rules.specs.step.Step.{step}
@@ -33,3 +35,15 @@ is_waiting p waiting = list_any (λ w. w == p) waiting
 abbrev pub AreAwake : List ℕ → List Entry → Type 0
 AreAwake waiting [] = Unit {0}
 AreAwake waiting (e ∷ es) = (is_waiting e.process waiting ≡ false) × AreAwake (waiting_after e.reply e.process waiting) es
+
+-- ---- who waits asks for the same again
+
+-- of the entries of one process: after one that was told to wait the next is of the same event
+abbrev pub AsksSameAgain : List Entry → Type 0
+AsksSameAgain [] = Unit {0}
+AsksSameAgain (e ∷ []) = Unit {0}
+AsksSameAgain (e ∷ f ∷ es) = (e.reply ≡ MustWait → f.event ≡ e.event) × AsksSameAgain (f ∷ es)
+
+-- whoever was told to wait asks for the same next, and for nothing else before
+abbrev pub AllAskAgain : List Entry → Type 0
+AllAskAgain history = (process : ℕ) → AsksSameAgain (entries_of process history)

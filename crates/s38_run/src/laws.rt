@@ -1,4 +1,4 @@
-ghost use Rattle.std.specs.Prelude.{◌≡◌, ℕ, List, Option, length};
+ghost use Rattle.std.specs.Prelude.{◌≡◌, [], ℕ, List, Option, length};
 ghost use Rattle.s38_machine.specs.Stored.{stored_state_of};
 ghost use Rattle.s38_code.specs.declared.deck.Job.{Job};
 ghost use Rattle.s38_code.specs.declared.made.CreateResult.{CreateResult};
@@ -12,8 +12,8 @@ ghost use Rattle.s38_rules.specs.store.Room.{Room};
 ghost use Rattle.s38_rules.specs.state.State.{State};
 ghost use Rattle.s38_rules.specs.step.Step.{step};
 ghost use Rattle.s38_run.specs.Pickers.{picks_of};
-ghost use Rattle.s38_run.specs.Progress.{AreAwake, IsGoing};
-ghost use Rattle.s38_run.specs.Whole.{WasRun};
+ghost use Rattle.s38_run.specs.Progress.{AllAskAgain, AreAwake, IsGoing};
+ghost use Rattle.s38_run.specs.Whole.{AllByProgram, WasRun};
 ghost use Rattle.s38_rules.specs.step.Histories.{Throughout};
 
 use crate::picker::Picker;
@@ -39,4 +39,10 @@ pub fn one_is_always_ready()
 /// once between two effects.
 pub fn who_waits_is_silent()
     ensures { (s : State) (before history : List Entry) (end : State) → Leads s before history end → AreAwake s.waiting history }
+{}
+
+/// Who waits asks for the same again: the next entry of a process that was told to wait is of the event that it asked for.
+pub fn who_waits_asks_again()
+    ensures { (made : List CreateResult) (jobs : List Job) (s : State) (history : List Entry) (end : State) → length made ≡ length jobs → length s.processes ≡ length jobs → Leads s [] history end
+        → AllByProgram made jobs history → AllAskAgain history }
 {}

@@ -12,7 +12,7 @@ mod turn;
 
 use job_state::JobState;
 pub use jobs::serial;
-pub use laws::{one_is_always_ready, the_picks_decide, who_waits_is_silent};
+pub use laws::{one_is_always_ready, the_picks_decide, who_waits_asks_again, who_waits_is_silent};
 pub use picker::{ListPicker, NumberPicker, Picker};
 pub use run_end::RunEnd;
 pub use run_machine::RunMachine;

@@ -1,14 +1,18 @@
 -- A whole run from an opening keeps the laws of runs.
 use Rattle.std.specs.Prelude.{Option}
-use Rattle.std.proofs.Common.{All, List, []}
+use Rattle.std.proofs.Common.{◌≡◌, ◌<◌, ℕ, ◌+◌, All, List, [], length, subst}
+use Rattle.std.proofs.lemmas.List.{length-map}
 use Rattle.s38_code.specs.declared.deck.Deck.{Deck}
 use Rattle.s38_code.specs.declared.entry.Entry.{Entry}
+use Rattle.s38_code.specs.History.{entries_of}
 use Rattle.s38_laws_images.proofs.openings.BeginLaws.{opening_well, run_right, run_well}
 use Rattle.s38_laws_images.specs.openings.Opening.{IsOpening}
 use Rattle.s38_rules.specs.store.Room.{Room}
 use Rattle.s38_rules.specs.state.Held.{Held}
 use Rattle.s38_rules.specs.state.PrivateRows.{AreRows}
 use Rattle.s38_rules.specs.state.State.{State}
+use Rattle.s38_run.proofs.AgainLaws.{RanFromStart, history_again}
+use Rattle.s38_run.proofs.ListedJobs.{there_is}
 use Rattle.s38_run.proofs.ProgressLaws.{begins_going, history_awake, history_going}
 use Rattle.s38_laws_state.proofs.EndLaws.{nothing_left}
 use Rattle.s38_laws_state.proofs.FollowLaws.{run_live}
@@ -33,6 +37,15 @@ run_by_jobs room held Order deck history run = record {
 whole_runs : (room : Option Room) (held : Held) (Order : State → List Entry → Type 0) (deck : Deck) (history : List Entry) → IsRunOf room held Order deck history → AreWholeRuns deck.jobs history
 whole_runs room held Order deck history run = record { runs = run_by_jobs room held Order deck history run; whole = λ k job there. (run.each k job there).ran.whole }
 
+-- a process of the opened machine is that of a job, and has run from its start on
+from_start : (room : Option Room) (held : Held) (Order : State → List Entry → Type 0) (deck : Deck) (history : List Entry) → IsRunOf room held Order deck history
+    → (k : ℕ) → k < length (opened_machine room held deck).processes → RanFromStart (entries_of (k + 1) history)
+from_start room held Order deck history run k within =
+    let many : length (opened_machine room held deck).processes ≡ length deck.jobs = length-map deck.jobs _ in
+    let job = there_is deck.jobs k (subst (λ (n : ℕ). k < n) many within) in
+    let one = run.each k job.0 job.1 in
+    (one.made, job.0.budget, one.ran.by_program)
+
 pub run_keeps : (room : Option Room) (held : Held) (Order : State → List Entry → Type 0) (deck : Deck) (history : List Entry) → IsOpening held → (run : IsRunOf room held Order deck history) → KeepsLaws room held deck history run.state
 run_keeps room held Order deck history opening run = record {
   confined = run_confined room held Order deck history (rows_in_order held opening) run;
@@ -48,4 +61,5 @@ run_keeps room held Order deck history opening run = record {
   right = (run_right room held (checked_of deck) deck.jobs history run.state opening run.legal).0;
   going = history_going (opened_machine room held deck) history (begins_going room held (checked_of deck) deck.jobs);
   awake = history_awake (opened_machine room held deck) [] history run.state run.legal;
+  again = history_again (opened_machine room held deck) run.state history run.legal (from_start room held Order deck history run);
 }

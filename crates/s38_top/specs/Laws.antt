@@ -9,7 +9,7 @@ use Rattle.s38_laws_processes.specs.replies.Replies.{AllSuit}
 use Rattle.s38_rules.specs.state.Held.{Held}
 use Rattle.s38_rules.specs.store.Room.{Room}
 use Rattle.s38_rules.specs.state.State.{State}
-use Rattle.s38_run.specs.Progress.{AreAwake, IsGoing}
+use Rattle.s38_run.specs.Progress.{AllAskAgain, AreAwake, IsGoing}
 use Rattle.s38_laws_state.specs.Later.{IsConfinedFromAny}
 use Rattle.s38_laws_state.specs.Live.{HasNothingLeft, IsLive}
 use Rattle.s38_laws_state.specs.Order.{AreInOrder}
@@ -32,6 +32,7 @@ pub record KeepsLaws (room : Option Room) (held : Held) (deck : Deck) (history :
   pub ordered : Throughout AreInOrder (opened_machine room held deck) history
   -- the units of changes are right
   pub right : Throughout IsRight (opened_machine room held deck) history
-  -- none is ready only where all have ended, and who waits asks for nothing before an effect
+  -- none is ready only where all have ended, and who waits asks for nothing before an effect, and then for the same again
   pub going : Throughout IsGoing (opened_machine room held deck) history
   pub awake : AreAwake [] history
+  pub again : AllAskAgain history
