@@ -89,7 +89,7 @@ int open(const char *path, int flags, ...) {
     int mode = flags & O_CREAT ? va_arg(list, int) : 0;
     va_end(list);
     char other[4096];
-    if (is("opens-another-file") && flags & O_CREAT && locked >= 0) {
+    if (is("opens-another-file") && flags & O_CREAT) {
         snprintf(other, sizeof other, "%.4000s.other", path);
         path = other;
     }

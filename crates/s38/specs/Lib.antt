@@ -1,2 +1,2 @@
+pub mod StoreFiles
 pub mod CommandLine
-pub mod Locking

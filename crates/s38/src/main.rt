@@ -2,18 +2,18 @@
 //! runs its jobs over the store and prints a log for each, or checks its templates and prints a line for each.
 #![tactic(auto)]
 
-mod locking;
 mod refusal;
 mod service;
+mod store_files;
 mod streams;
 
-use locking::{Hold, hold_store};
 use refusal::{refusal_of, refuse};
 use s38_io::{StdSink, StdSource};
-use service::{attach, serve_over_file};
+use service::serve_words;
 use std::env::Env;
 use std::process::ExitCode;
 use std::{env, io};
+use store_files::SystemFiles;
 use streams::take_places;
 
 /// The words of the command line after the program's own.
@@ -33,24 +33,14 @@ fn main(rt: HostRuntime) -> ExitCode {
     let mut deck = StdSource::new(rt.reader());
     let mut out = StdSink::new(io::writer(&rt));
     let status = match command_line(&rt) {
-        Ok(words) => {
-            // As long as it is held no other run looks at the store.
-            let held = hold_store(&rt, words.as_slice());
-            let file = match &held {
-                Hold::Taken => None,
-                _ => attach(&rt, words.as_slice()),
-            };
-            let status = serve_over_file(
-                &rt,
-                rt.alloc(),
-                words.as_slice(),
-                file,
-                &mut deck,
-                &mut out,
-            );
-            drop(held);
-            status
-        }
+        Ok(words) => serve_words(
+            &rt,
+            rt.alloc(),
+            &SystemFiles { rt: &rt },
+            words.as_slice(),
+            &mut deck,
+            &mut out,
+        ),
         Err(fault) => refuse(refusal_of(fault.kind()), &mut out),
     };
     drop(places);

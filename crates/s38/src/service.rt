@@ -1,11 +1,13 @@
-ghost use Rattle.std.specs.Prelude.{◌≡◌, IfOk, IfSome, IsSome, map, string_bytes};
+ghost use Rattle.std.specs.Prelude.{◌≡◌, ◌∷◌, IfOk, IfSome, IsSome, map, string_bytes};
 ghost use Rattle.s38_command.specs.Commands.{asks_threads, command_of};
 ghost use Rattle.s38_top.specs.Outcome.{IsExplained};
 ghost use Rattle.s38_top.specs.Outside.{outside};
-ghost use Rattle.s38.specs.CommandLine.{EndsSomehow, IsServed, fresh_store};
+ghost use Rattle.s38.specs.CommandLine.{EndsSomehow, IsServed};
 
 use crate::refusal::{Refusal, refuse};
-use s38_disk::{Disk, FileDisk};
+use crate::store_files::{StoreFiles, attach};
+use s38_command::looks_at_store;
+use s38_disk::Disk;
 use s38_io::{Sink, Source};
 use s38_top::{Report, plain_top, run_top, takes_threads};
 use std::alloc::{AllocError, Global};
@@ -47,65 +49,67 @@ fn serve_texts<R: Threads + Wait + Sync, D: Disk + Drop + Send, I: Source, O: Si
     }
 }
 
-/// Serves words over a disk. The program ends after it, and its memory with it: neither the disk nor the history is taken
-/// apart.
+/// Serves words over a disk. The program ends after it, and its memory with it: neither the disk, which keeps its file to the end,
+/// nor the history is taken apart.
 fn serve<R: Threads + Wait + Sync, D: Disk + Drop + Send, I: Source, O: Sink>(
     rt: &R,
     alloc: Global,
-    words: &[String],
+    texts: &[&str],
     deck: &mut I,
     disk: D,
     out: &mut O,
 ) -> u8
-    ensures { EndsSomehow (map string_bytes words.now) (outside (I.left deck.old) (I.faults deck.old) (O.written out.old) (O.faults out.old) (D.view disk))
+    ensures { EndsSomehow (map (λ w. w.now) texts.now) (outside (I.left deck.old) (I.faults deck.old) (O.written out.old) (O.faults out.old) (D.view disk))
         (I.left deck.new) (I.faults deck.new) (O.written out.new) (O.faults out.new) result }
 {
-    match texts(alloc, words) {
+    match takes_threads(alloc, texts) {
         Err(_) => refuse(Refusal::NoMemory, out),
-        Ok(texts) => match takes_threads(alloc, texts.as_slice()) {
-            Err(_) => refuse(Refusal::NoMemory, out),
-            Ok(threads) => {
-                let report = serve_texts(rt, alloc, threads, texts.as_slice(), deck, disk, out);
-                let status = report.status;
-                mem::forget(report);
-                status
-            }
+        Ok(threads) => {
+            let report = serve_texts(rt, alloc, threads, texts, deck, disk, out);
+            let status = report.status;
+            mem::forget(report);
+            status
+        }
+    }
+}
+
+/// Serves words over the file of a path. The words are looked at first, so the file is held only for a command that looks at
+/// the store.
+fn serve_over<
+    R: Threads + Wait + Sync,
+    D: Disk + Drop + Send,
+    F: StoreFiles<D>,
+    I: Source,
+    O: Sink,
+>(rt: &R, alloc: Global, files: &F, path: &str, texts: &[&str], deck: &mut I, out: &mut O) -> u8
+    ensures { IsServed D.view F.is_fresh F.is_of F.is_held F.is_shut F.is_taken (path.now ∷ map (λ w. w.now) texts.now) (I.left deck.old) (I.faults deck.old) (O.written out.old) (O.faults out.old)
+        (I.left deck.new) (I.faults deck.new) (O.written out.new) (O.faults out.new) result }
+{
+    match looks_at_store(alloc, texts) {
+        Err(_) => refuse(Refusal::NoMemory, out),
+        Ok(looks) => match attach(files, path, looks) {
+            None => refuse(Refusal::DiskFault, out),
+            Some(disk) => serve(rt, alloc, texts, deck, disk, out),
         },
     }
 }
 
-/// The file of the store that the words name, which is made where there is none; none without a path, or where the file can't
-/// be opened.
-pub fn attach(rt: &HostRuntime, words: &[String]) -> Option<FileDisk>
-    ensures { IfSome result (λ disk. disk ≡ fresh_store) }
+/// Serves the words of a command line: those after the first, which is the path of the store's file, over that file.
+pub fn serve_words<
+    R: Threads + Wait + Sync,
+    D: Disk + Drop + Send,
+    F: StoreFiles<D>,
+    I: Source,
+    O: Sink,
+>(rt: &R, alloc: Global, files: &F, words: &[String], deck: &mut I, out: &mut O) -> u8
+    ensures { IsServed D.view F.is_fresh F.is_of F.is_held F.is_shut F.is_taken (map string_bytes words.now) (I.left deck.old) (I.faults deck.old) (O.written out.old) (O.faults out.old)
+        (I.left deck.new) (I.faults deck.new) (O.written out.new) (O.faults out.new) result }
 {
-    let [path, ..] = words else {
-        return None;
-    };
-    match FileDisk::attach(rt, path.as_str()) {
-        Err(_) => None,
-        Ok(disk) => Some(disk),
-    }
-}
-
-/// Serves the words after the first, which is the path of the store's file, over that file.
-pub fn serve_over_file<R: Threads + Wait + Sync, I: Source, O: Sink>(
-    rt: &R,
-    alloc: Global,
-    words: &[String],
-    file: Option<FileDisk>,
-    deck: &mut I,
-    out: &mut O,
-) -> u8
-    requires { IfSome file (λ disk. disk ≡ fresh_store) }
-    ensures { IsServed (map string_bytes words.now) (I.left deck.old) (I.left deck.new) (I.faults deck.old) (I.faults deck.new)
-        (O.written out.old) (O.written out.new) (O.faults out.old) (O.faults out.new) result }
-{
-    let [_, behind @ ..] = words else {
+    let [path, after @ ..] = words else {
         return refuse(Refusal::BadWords, out);
     };
-    match file {
-        None => refuse(Refusal::DiskFault, out),
-        Some(disk) => serve(rt, alloc, behind, deck, disk, out),
+    match texts(alloc, after) {
+        Err(_) => refuse(Refusal::NoMemory, out),
+        Ok(texts) => serve_over(rt, alloc, files, path.as_str(), texts.as_slice(), deck, out),
     }
 }

@@ -125,3 +125,17 @@ AreTurnsOn true (Workers count) = 1 ≤ count
 AreTurnsOn true (Serial pick) = ⊥
 AreTurnsOn false (Workers count) = ⊥
 AreTurnsOn false (Serial pick) = Unit {0}
+
+-- ---- the store
+
+-- the command looks at the store
+abbrev pub looks_at_store : Command → Bool
+looks_at_store (Jobs turns) = true
+looks_at_store Check = false
+looks_at_store (Demo size) = false
+looks_at_store Install = true
+looks_at_store Listing = true
+
+abbrev pub asks_store : Option Command → Bool
+asks_store None = false
+asks_store (Some command) = looks_at_store command

@@ -2,7 +2,7 @@ ghost use Rattle.std.specs.Prelude.{◌≡◌, ◌≤◌, ℕ, IfOk, map, Some};
 ghost use Rattle.std.specs.Option.{option_map};
 ghost use Rattle.s38_words.specs.Number.{natural_of};
 ghost use Rattle.s38_command.specs.declared.turns.Turns.{Turns};
-ghost use Rattle.s38_command.specs.Commands.{AreTurnsOn, asks_threads, bare_by, command_by, command_in, command_of, command_on, demo_by, demo_of, pick_of, run_by, same_side, serial_by, served_by, takes_threads, without_others, workers_of};
+ghost use Rattle.s38_command.specs.Commands.{AreTurnsOn, asks_store, asks_threads, bare_by, command_by, command_in, command_of, command_on, demo_by, demo_of, looks_at_store, pick_of, run_by, same_side, serial_by, served_by, takes_threads, without_others, workers_of};
 
 use crate::said::{Said, said_of};
 use crate::turns::Turns;
@@ -205,6 +205,26 @@ pub fn takes_threads(alloc: Global, words: &[&str]) -> Result<bool, NoMemory>
     match command_of(alloc, words)? {
         None => Ok(false),
         Some(command) => Ok(takes(command)),
+    }
+}
+
+/// Whether a command looks at the store.
+fn looks(command: Command) -> bool
+    ensures { result ≡ looks_at_store command }
+{
+    match command {
+        Command::Jobs { .. } | Command::Install | Command::List => true,
+        Command::Check | Command::Demo { .. } => false,
+    }
+}
+
+/// Whether the words are a command that looks at the store.
+pub fn looks_at_store(alloc: Global, words: &[&str]) -> Result<bool, NoMemory>
+    ensures { IfOk result (λ looks. looks ≡ asks_store (command_of (map (λ w. w.now) words.now))) }
+{
+    match command_of(alloc, words)? {
+        None => Ok(false),
+        Some(command) => Ok(looks(command)),
     }
 }
 

@@ -5,6 +5,6 @@ mod command;
 mod said;
 mod turns;
 
-pub use command::{Command, command_on, takes_threads};
+pub use command::{Command, command_on, looks_at_store, takes_threads};
 pub use said::{Said, said_of};
 pub use turns::Turns;

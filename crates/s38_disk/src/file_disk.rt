@@ -8,7 +8,7 @@ use crate::disk::Disk;
 use crate::fault_plan::counted;
 use s38_base::Failed;
 use s38_io::answer::{Answer, of_flush, of_read, of_write};
-use std::fs::{File, OpenOptions};
+use std::fs::{File, OpenOptions, TryLockError};
 use std::marker::Model;
 use std::os::unix::fs::FileExt;
 
@@ -56,6 +56,15 @@ impl FileDisk {
                 sound: true,
             }),
             Err(_) => Err(Failed),
+        }
+    }
+
+    /// Asks for the lock of the file, which nobody else who opens it gets as long as this disk is there. False where another
+    /// has it. Where the file system has no locks, none is taken.
+    pub fn try_lock(&self) -> bool {
+        match self.file.try_lock() {
+            Ok(()) | Err(TryLockError::Error(_)) => true,
+            Err(TryLockError::WouldBlock) => false,
         }
     }
 

@@ -1,4 +1,4 @@
-use Rattle.std.proofs.Common.{◌≡◌, ℕ, inl, inr, List, [], Option, Some, None, IfSome, map, refl, ap, subst, ◌∙◌, arith}
+use Rattle.std.proofs.Common.{◌≡◌, ℕ, inl, inr, List, [], Option, Some, None, IfSome, refl, arith}
 use Rattle.std.specs.Option.{IsSome}
 use Rattle.s38_code.specs.declared.entry.Entry.{Entry}
 use Rattle.s38_disk.specs.Disk.{DiskView}
@@ -33,25 +33,17 @@ no_memory words old written put status told = record {
     other n is zero = omega (arith, is, zero)
 
 -- what a call with a disk comes to
-answered_of : {D X Y : Type 0} (view : D → DiskView) (f : X → List ℕ) (now : Y → List ℕ) (behind : List X) (texts words : List Y) (disk : Option D) (old : Outside) (left : Option (List ℕ)) (taken : ℕ) (written : Option (List ℕ)) (put status : ℕ) (history : List Entry) (marks : List ℕ)
-    → map now texts ≡ map f behind → words ≡ texts → IsSome disk
-    → IfSome disk (λ new. IsExplained (command_of (map now words)) old (outside left taken written put (view new)) status history marks)
-    → EndsSomehow (map f behind) old left taken written put status
-answered_of view f now behind texts words None old left taken written put status history marks same is there answered = cc
-answered_of view f now behind texts words (Some d) old left taken written put status history marks same is there answered =
-    subst (λ (ws : List (List ℕ)). EndsSomehow ws old left taken written put status) (ap (map now) is ∙ same)
-    (record { history = history; marks = marks; disk = view d; answered = answered })
+answered_of : {D : Type 0} (view : D → DiskView) (words : List (List ℕ)) (disk : Option D) (old : Outside) (left : Option (List ℕ)) (taken : ℕ) (written : Option (List ℕ)) (put status : ℕ) (history : List Entry) (marks : List ℕ) → IsSome disk
+    → IfSome disk (λ new. IsExplained (command_of words) old (outside left taken written put (view new)) status history marks) → EndsSomehow words old left taken written put status
+answered_of view words None old left taken written put status history marks there answered = cc
+answered_of view words (Some d) old left taken written put status history marks there answered = record { history = history; marks = marks; disk = view d; answered = answered }
 
 pub returns-in-Err : goal.returns-in-Err
 returns-in-Err g c =
     no_memory _ (outside (g.I.Source.left c.args.deck.now) (g.I.Source.faults c.args.deck.now) (g.O.Sink.written c.args.out.now) (g.O.Sink.faults c.args.out.now) (g.D.Disk.view c.args.disk)) _ _ _ c.refuse.ensures
 
-pub returns-in-Err-takes_threads : goal.returns-in-Err-takes_threads
-returns-in-Err-takes_threads g c =
-    no_memory _ (outside (g.I.Source.left c.args.deck.now) (g.I.Source.faults c.args.deck.now) (g.O.Sink.written c.args.out.now) (g.O.Sink.faults c.args.out.now) (g.D.Disk.view c.args.disk)) _ _ _ c.refuse-in-Err-takes_threads.ensures
-
-pub returns-in-Ok-takes_threads : goal.returns-in-Ok-takes_threads
-returns-in-Ok-takes_threads g c =
-    answered_of g.D.Disk.view _ (λ text. text.now) _ c.in-Ok.texts.items c.as_slice-in-Ok-takes_threads.result.now c.serve_texts-report.result.disk
+pub returns-in-Ok : goal.returns-in-Ok
+returns-in-Ok g c =
+    answered_of g.D.Disk.view _ c.serve_texts-report.result.disk
     (outside (g.I.Source.left c.args.deck.now) (g.I.Source.faults c.args.deck.now) (g.O.Sink.written c.args.out.now) (g.O.Sink.faults c.args.out.now) (g.D.Disk.view c.args.disk)) _ _ _ _ _ _ _
-    c.in-Ok.ensures c.as_slice-in-Ok-takes_threads.ensures.value c.serve_texts-report.ensures.back c.serve_texts-report.ensures.answered
+    c.serve_texts-report.ensures.back c.serve_texts-report.ensures.answered
