@@ -4,4 +4,3 @@ pub mod GoLaws
 pub mod ListLaws
 pub mod GatherLaws
 pub mod RunLaws
-pub mod StillLaws

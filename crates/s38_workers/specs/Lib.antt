@@ -2,4 +2,3 @@ pub mod Hearing
 pub mod Asking
 pub mod Going
 pub mod Runs
-pub mod Still

@@ -1,6 +1,6 @@
-/// What is done before each shared event. All workers share it.
+/// What is done before each shared event. All workers share it. It has no handle by which it could wait, so it returns.
 pub trait Gate {
-    /// Is called before a process asks for an event, outside the turn.
+    /// Is called before a process asks for an event, outside the turn, after its local instructions.
     fn before(&self, process: u32);
 }
 

@@ -5,11 +5,9 @@ mod gate;
 mod going;
 mod hearer;
 mod jobs;
-mod machine;
 mod passes;
 mod runner;
 mod seats;
 
 pub use gate::{Gate, NoGate};
 pub use jobs::run_jobs;
-pub use machine::run_machine;

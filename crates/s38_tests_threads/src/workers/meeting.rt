@@ -1,7 +1,7 @@
+use crate::Counter;
 use crate::workers::given::{ended, jobs_of};
-use s38_base::Seq;
-use s38_machine::{Machine, general_opening};
-use s38_workers::{Gate, run_machine};
+use s38_run::RunEnd;
+use s38_workers::{Gate, run_jobs};
 use std::hint::spin_loop;
 use std::sync::atomic::{AtomicU64, Ordering};
 use std::test::Fail;
@@ -39,21 +39,16 @@ fn two_processes_meet(rt: HostRuntime) -> Result<(), Fail> {
         missed: AtomicU64::new(0),
     };
     let (jobs, made) = jobs_of(alloc, &[1, 1])?;
-    let machine = Machine::start(
-        alloc,
-        general_opening(alloc)?,
-        Seq::new(alloc),
-        jobs.as_slice(),
-    )?;
-    let machine = run_machine(
+    let (machine, end) = run_jobs(
         &rt,
         alloc,
-        machine,
+        Counter::new(alloc),
         jobs.as_slice(),
         made.as_slice(),
         2,
         &gate,
-    )?;
+    );
+    assert!(rt; end == RunEnd::Complete);
     assert!(rt; ended(machine.history()) == 2);
     assert!(rt; gate.missed.load(Ordering::SeqCst) == 0);
     Ok(())

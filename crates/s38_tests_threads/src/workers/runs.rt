@@ -1,9 +1,7 @@
 use crate::Counter;
 use crate::workers::given::{ended, jobs_of};
-use s38_base::Seq;
-use s38_machine::{Machine, general_opening};
 use s38_run::RunEnd;
-use s38_workers::{NoGate, run_jobs, run_machine};
+use s38_workers::{NoGate, run_jobs};
 use std::test::Fail;
 
 /// How many workers there are.
@@ -26,34 +24,6 @@ fn any_machine_is_shared(rt: HostRuntime) -> Result<(), Fail> {
         );
         assert!(rt; end == RunEnd::Complete);
         assert!(rt; ended(machine.history()) == 7);
-    }
-    Ok(())
-}
-
-/// The processes of later stages ask for nothing before those of the earlier ones have ended: each starts and ends, and none
-/// is told to wait.
-#[test]
-fn stages_follow_one_another(rt: HostRuntime) -> Result<(), Fail> {
-    let alloc = rt.alloc();
-    for workers in WORKERS {
-        let (jobs, made) = jobs_of(alloc, &[3, 1, 2, 2, 1, 3])?;
-        let machine = Machine::start(
-            alloc,
-            general_opening(alloc)?,
-            Seq::new(alloc),
-            jobs.as_slice(),
-        )?;
-        let machine = run_machine(
-            &rt,
-            alloc,
-            machine,
-            jobs.as_slice(),
-            made.as_slice(),
-            workers,
-            &NoGate,
-        )?;
-        assert!(rt; ended(machine.history()) == 6);
-        assert!(rt; machine.history().len() == 12);
     }
     Ok(())
 }
