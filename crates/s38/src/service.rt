@@ -9,7 +9,7 @@ use crate::store_files::{StoreFiles, attach};
 use s38_command::looks_at_store;
 use s38_disk::Disk;
 use s38_io::{Sink, Source};
-use s38_top::{Report, plain_top, run_top, takes_threads};
+use s38_top::{NoGate, Report, plain_top, run_top, takes_threads};
 use std::alloc::{AllocError, Global};
 use std::mem;
 use std::sync::Wait;
@@ -43,7 +43,7 @@ fn serve_texts<R: Threads + Wait + Sync, D: Disk + Drop + Send, I: Source, O: Si
         (outside (I.left deck.new) (I.faults deck.new) (O.written out.new) (O.faults out.new) (D.view new)) result.status result.history.items result.marks.items) }
 {
     if threads {
-        run_top(rt, alloc, texts, deck, disk, out)
+        run_top(rt, alloc, texts, deck, disk, out, &NoGate)
     } else {
         plain_top(alloc, texts, deck, disk, out)
     }

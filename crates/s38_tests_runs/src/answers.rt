@@ -3,8 +3,10 @@
 use s38_base::NoMemory;
 use s38_disk::MemDisk;
 use s38_io::{MemSink, MemSource};
-use s38_top::plain_top;
+use s38_top::{Gate, Report, plain_top, run_top};
 use std::alloc::Global;
+use std::sync::Wait;
+use std::thread::Threads;
 
 /// How many blocks the disk of a test has.
 const BLOCKS: u32 = 4_096;
@@ -48,6 +50,21 @@ pub fn run_over(alloc: Global, disk: MemDisk, asked: Asked) -> Result<Answer, No
         text: Vec::from_slice(alloc, sink.written())?,
         disk: report.disk,
     })
+}
+
+/// What a call that starts threads came to over a disk, with a gate between them.
+pub fn shared_over<R: Threads + Wait + Sync, G: Gate + Sync>(
+    rt: &R,
+    alloc: Global,
+    disk: MemDisk,
+    words: &[&str],
+    deck: &str,
+    gate: &G,
+) -> Result<Report<MemDisk>, NoMemory> {
+    let deck = bytes_of(alloc, deck)?;
+    let mut source = MemSource::new(deck, Vec::new(alloc));
+    let mut sink = MemSink::new(alloc, Vec::new(alloc));
+    Ok(run_top(rt, alloc, words, &mut source, disk, &mut sink, gate))
 }
 
 /// Whether a text was written.

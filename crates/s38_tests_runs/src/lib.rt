@@ -7,4 +7,6 @@ mod answers;
 #[cfg(test)]
 mod faults;
 #[cfg(test)]
+mod gates;
+#[cfg(test)]
 mod listed;

@@ -32,6 +32,7 @@ use s38_page_diff::FlushFault;
 use s38_pages::PageVault;
 use s38_store_file::{Kept, checkpoint};
 use s38_vault::Vault;
+use s38_workers::Gate;
 use std::alloc::Global;
 use std::sync::Wait;
 use std::thread::Threads;
@@ -145,10 +146,11 @@ fn run_alone<D: Disk + Drop>(alloc: Global, ready: ReadyRun<D>) -> Decided<D>
 }
 
 /// Makes a run on threads, and keeps what it leaves.
-fn run_on_threads<R: Threads + Wait + Sync, D: Disk + Drop + Send>(
+fn run_on_threads<R: Threads + Wait + Sync, D: Disk + Drop + Send, G: Gate + Sync>(
     rt: &R,
     alloc: Global,
     ready: ReadyRun<D>,
+    gate: &G,
 ) -> Decided<D>
     requires turns { AreTurnsOn true ready.turns }
     requires begun { IsBegunOver ready.started.deck ready.started.made.items ready.started.machine }
@@ -159,7 +161,7 @@ fn run_on_threads<R: Threads + Wait + Sync, D: Disk + Drop + Send>(
     let Turns::Workers { count } = turns else {
         unreachable!()
     };
-    let run = run_shared_over(rt, alloc, started, count);
+    let run = run_shared_over(rt, alloc, started, count, gate);
     finish(alloc, turns, run)
 }
 
@@ -181,19 +183,18 @@ pub fn decide_alone<S: Source, D: Disk + Drop>(
 }
 
 /// What the words, a source and a disk come to in a call that starts threads.
-pub fn decide_on_threads<R: Threads + Wait + Sync, S: Source, D: Disk + Drop + Send>(
-    rt: &R,
-    alloc: Global,
-    words: &[&str],
-    source: &mut S,
-    disk: D,
-) -> Decided<D>
+pub fn decide_on_threads<
+    R: Threads + Wait + Sync,
+    S: Source,
+    D: Disk + Drop + Send,
+    G: Gate + Sync,
+>(rt: &R, alloc: Global, words: &[&str], source: &mut S, disk: D, gate: &G) -> Decided<D>
     ensures decided { IsDecided (command_on true (map (λ w. w.now) words.now)) (S.left source.old) (S.left source.new) (S.faults source.old) (S.faults source.new)
         (D.view disk) (D.view result.disk) result.outcome }
     ensures safe { IsSafeOf (command_on true (map (λ w. w.now) words.now)) (D.view disk) (D.view result.disk) result.outcome }
 {
     match prepare(alloc, true, words, source, disk) {
         Err(decided) => decided,
-        Ok(ready) => run_on_threads(rt, alloc, ready),
+        Ok(ready) => run_on_threads(rt, alloc, ready, gate),
     }
 }

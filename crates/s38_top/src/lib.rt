@@ -19,5 +19,6 @@ pub use outcome::Whole;
 pub use report::Report;
 pub use run::run_deck;
 pub use s38_command::takes_threads;
+pub use s38_workers::{Gate, NoGate};
 pub use templates::checked_templates;
 pub use top::{plain_top, run_top};

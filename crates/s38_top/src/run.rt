@@ -54,6 +54,7 @@ fn run_serial<P: Picker>(alloc: Global, started: Started, picker: &mut P) -> Res
     );
     match end {
         RunEnd::Complete => Ok(whole_of(deck, machine)),
+        // A machine without a store never stops, so memory was refused.
         _ => Err(NoMemory),
     }
 }

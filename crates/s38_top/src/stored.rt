@@ -20,7 +20,7 @@ use s38_durable_machine::{Ending, StoredMachine};
 use s38_pages::WatchedVault;
 use s38_run::{NumberPicker, RunEnd, serial};
 use s38_store_file::OpenStore;
-use s38_workers::{NoGate, run_jobs};
+use s38_workers::{Gate, run_jobs};
 use std::alloc::Global;
 use std::sync::Wait;
 use std::thread::Threads;
@@ -120,6 +120,7 @@ fn end_over(ending: Ending, end: RunEnd) -> RunEnd
     match ending {
         Ending::Going => match end {
             RunEnd::Complete => RunEnd::Complete,
+            // A machine that goes on was not stopped, so memory was refused.
             RunEnd::Stopped | RunEnd::NoMemory => RunEnd::NoMemory,
         },
         Ending::Stopped => RunEnd::Stopped,
@@ -127,12 +128,13 @@ fn end_over(ending: Ending, end: RunEnd) -> RunEnd
     }
 }
 
-/// Runs the jobs that a machine has begun on so many threads, which share it.
-pub fn run_shared_over<R: Threads + Wait + Sync, D: Disk + Drop + Send>(
+/// Runs the jobs that a machine has begun on so many threads, which share it. Before each event the gate is called.
+pub fn run_shared_over<R: Threads + Wait + Sync, D: Disk + Drop + Send, G: Gate + Sync>(
     rt: &R,
     alloc: Global,
     started: StoredStart<D>,
     count: u32,
+    gate: &G,
 ) -> StoredRun<D>
     requires begun { IsBegunOver started.deck started.made.items started.machine }
     requires some { 1 ≤ count }
@@ -152,7 +154,7 @@ pub fn run_shared_over<R: Threads + Wait + Sync, D: Disk + Drop + Send>(
         deck.jobs.as_slice(),
         made.as_slice(),
         count,
-        &NoGate,
+        gate,
     );
     let end = end_over(machine.ending(), end);
     StoredRun { deck, machine, end }

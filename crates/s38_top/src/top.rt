@@ -7,6 +7,7 @@ use crate::decide::{decide_alone, decide_on_threads};
 use crate::report::{Report, reported};
 use s38_disk::Disk;
 use s38_io::{Sink, Source};
+use s38_workers::Gate;
 use std::alloc::Global;
 use std::sync::Wait;
 use std::thread::Threads;
@@ -37,14 +38,17 @@ pub fn plain_top<D: Disk + Drop, I: Source, O: Sink>(
 }
 
 /// Serves `run` and `run --workers n`; other words are no command here. The jobs of the deck are run as under `serial`, on so
-/// many threads, which share the machine. The disk comes back. How long a job waits for others is not promised.
-pub fn run_top<R: Threads + Wait + Sync, D: Disk + Drop + Send, I: Source, O: Sink>(
+/// many threads, which share the machine. Before each event the gate is called, outside of the turn. It gets no handle by which
+/// it could wait, so it returns; whatever it does, the clauses hold. The disk comes back. How long a job waits for others is not
+/// promised.
+pub fn run_top<R: Threads + Wait + Sync, D: Disk + Drop + Send, I: Source, O: Sink, G: Gate + Sync>(
     rt: &R,
     alloc: Global,
     words: &[&str],
     deck: &mut I,
     disk: D,
     out: &mut O,
+    gate: &G,
 ) -> Report<D>
     ensures back { IsSome result.disk }
 
@@ -52,6 +56,6 @@ pub fn run_top<R: Threads + Wait + Sync, D: Disk + Drop + Send, I: Source, O: Si
     ensures answered { IfSome result.disk (λ new. IsExplained (command_on true (map (λ w. w.now) words.now)) (outside (I.left deck.old) (I.faults deck.old) (O.written out.old) (O.faults out.old) (D.view disk))
         (outside (I.left deck.new) (I.faults deck.new) (O.written out.new) (O.faults out.new) (D.view new)) result.status result.history.items result.marks.items) }
 {
-    let decided = decide_on_threads(rt, alloc, words, deck, disk);
+    let decided = decide_on_threads(rt, alloc, words, deck, disk, gate);
     reported(alloc, decided, out)
 }
