@@ -1,5 +1,9 @@
 //! Numbers that no deck can compare, since together they have more than 38 digits.
 
+ghost use Rattle.std.specs.Prelude.{IsTrue};
+ghost use Rattle.s38_base.specs.Scalar.{fits};
+ghost use Rattle.s38_base.specs.declared.attr.Attr.{Attr};
+
 use s38_base::Attr;
 use s38_decimal::{Dec, compare};
 use std::cmp::Ordering;
@@ -7,7 +11,9 @@ use std::cmp::Ordering;
 const LONGEST: i128 = 9_999_999_999_999_999_999_999_999_999_999;
 
 /// A number of 31 digits, so many of them after the point.
-fn number(units: i128, fraction: u8) -> Dec {
+fn number(units: i128, fraction: u8) -> Dec
+    requires { IsTrue (fits (Attr.Packed 31 fraction) units) }
+{
     Dec {
         units,
         attr: Attr::Packed {
@@ -18,6 +24,7 @@ fn number(units: i128, fraction: u8) -> Dec {
 }
 
 #[test]
+#[tactic(auto, unfolding(s38_base::specs::Scalar::fits))]
 fn any_two_numbers_have_an_order(rt: HostRuntime) {
     let cases = [
         (number(1, 0), number(LONGEST, 31), Ordering::Greater),

@@ -1,4 +1,5 @@
 //! Stores on a disk in memory, and what they hold.
+ghost use Rattle.std.specs.Prelude.{◌≡◌};
 
 use s38_base::{Change, Key, Page};
 use s38_disk::{Disk, MemDisk};
